@@ -1,0 +1,68 @@
+//! The C calls of the proved archive and their records, as exported.
+//! The crate's own functions are the same calls with Rust's types.
+
+/// A motion vector, in quarter samples of luma.
+#[repr(C)]
+#[derive(Clone, Copy, Debug, Default, PartialEq, Eq, Hash)]
+pub struct Mv {
+    pub x: i32,
+    pub y: i32,
+}
+
+/// A neighbouring block, as vector prediction sees it.
+#[repr(C)]
+#[derive(Clone, Copy, Debug, PartialEq, Eq, Hash)]
+pub struct MvNeighbor {
+    pub available: bool,
+    pub mv: Mv,
+    /// The reference index; negative for an intra block.
+    pub ref_idx: i32,
+}
+
+/// A predicted vector: (0,0) where `refusal` is not 0.
+#[repr(C)]
+#[derive(Clone, Copy, Debug, PartialEq, Eq)]
+pub struct MvAnswer {
+    pub refusal: u32,
+    pub mv: Mv,
+}
+
+/// A part of a macroblock, in luma samples.
+#[repr(C)]
+#[derive(Clone, Copy, Debug, Default, PartialEq, Eq, Hash)]
+pub struct Rect {
+    pub x: usize,
+    pub y: usize,
+    pub w: usize,
+    pub h: usize,
+}
+
+/// The parts of a macroblock mode: the first `count` of `parts`, zeros after them.
+#[repr(C)]
+#[derive(Clone, Copy, Debug, PartialEq, Eq)]
+pub struct Partitions {
+    pub count: usize,
+    pub parts: [Rect; 4],
+}
+
+unsafe extern "C" {
+    pub safe fn inter_median3(a: i32, b: i32, c: i32) -> i32;
+
+    pub safe fn inter_predict_mv(
+        a: MvNeighbor,
+        b: MvNeighbor,
+        c: MvNeighbor,
+        cur_ref: i32,
+    ) -> MvAnswer;
+
+    pub safe fn inter_predict_partition_mv(
+        mode: u8,
+        part: usize,
+        a: MvNeighbor,
+        b: MvNeighbor,
+        c: MvNeighbor,
+        cur_ref: i32,
+    ) -> MvAnswer;
+
+    pub safe fn inter_inter_partitions(mode: u8) -> Partitions;
+}

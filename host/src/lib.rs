@@ -1,0 +1,14 @@
+//! H.264 inter prediction: safe calls over the exports of the proved Rattle crate `inter`.
+//!
+//! The calls carry the names and the parameters of rusty_h264's inter.rs. Each one checks its
+//! own arguments: what it cannot serve it answers with a [`Refusal`], and then nothing that it
+//! was lent has changed.
+
+pub mod ffi;
+mod refusal;
+mod vectors;
+
+pub use refusal::Refusal;
+pub use vectors::{
+    inter_partitions, median3, predict_mv, predict_partition_mv, Mv, MvNeighbor, Partitions, Rect,
+};
