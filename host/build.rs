@@ -40,20 +40,12 @@ fn newest(path: &Path) -> Option<SystemTime> {
         return meta.modified().ok();
     }
     let entries = fs::read_dir(path).ok()?;
-    entries
-        .flatten()
-        .filter_map(|entry| newest(&entry.path()))
-        .max()
+    entries.flatten().filter_map(|entry| newest(&entry.path())).max()
 }
 
 /// Proves the Rattle crate `inter` and writes its archive.
 fn make(root: &Path) {
-    println!("cargo::warning=rt staticlib inter: proving and building the archive");
-    let run = match Command::new("rt")
-        .args(["staticlib", "inter"])
-        .current_dir(root)
-        .output()
-    {
+    let run = match Command::new("rt").args(["staticlib", "inter"]).current_dir(root).output() {
         Ok(run) => run,
         Err(error) if error.kind() == ErrorKind::NotFound => panic!(
             "the Rattle kit's command `rt` was not found on PATH; \
@@ -68,4 +60,5 @@ fn make(root: &Path) {
         String::from_utf8_lossy(&run.stdout),
         String::from_utf8_lossy(&run.stderr)
     );
+    println!("cargo::warning=the archive was proved and made anew by `rt staticlib inter`");
 }

@@ -44,9 +44,7 @@ impl Refusal {
 
     /// The refusal of that number; none for 0, which is done.
     pub fn from_number(number: u32) -> Option<Refusal> {
-        Refusal::ALL
-            .into_iter()
-            .find(|refusal| refusal.number() == number)
+        Refusal::ALL.into_iter().find(|refusal| refusal.number() == number)
     }
 
     /// A short name, for logs.

@@ -7,11 +7,8 @@ pub use crate::ffi::{Mv, MvNeighbor, Partitions, Rect};
 
 impl MvNeighbor {
     /// A neighbour that is not available.
-    pub const NONE: MvNeighbor = MvNeighbor {
-        available: false,
-        mv: Mv { x: 0, y: 0 },
-        ref_idx: -1,
-    };
+    pub const NONE: MvNeighbor =
+        MvNeighbor { available: false, mv: Mv { x: 0, y: 0 }, ref_idx: -1 };
 }
 
 impl Partitions {
@@ -75,9 +72,7 @@ pub fn predict_partition_mv(
     c: MvNeighbor,
     cur_ref: i32,
 ) -> Result<Mv, Refusal> {
-    predicted(ffi::inter_predict_partition_mv(
-        mode, part, a, b, c, cur_ref,
-    ))
+    predicted(ffi::inter_predict_partition_mv(mode, part, a, b, c, cur_ref))
 }
 
 /// The parts of a macroblock of mode `mode`.

@@ -44,19 +44,11 @@ const BOUNDS: [i32; 25] = [
 ];
 
 fn neighbor(available: bool, x: i32, y: i32, ref_idx: i32) -> MvNeighbor {
-    MvNeighbor {
-        available,
-        mv: Mv { x, y },
-        ref_idx,
-    }
+    MvNeighbor { available, mv: Mv { x, y }, ref_idx }
 }
 
 fn for_rust(n: MvNeighbor) -> rust::MvNeighbor {
-    rust::MvNeighbor {
-        available: n.available,
-        mv: (n.mv.x, n.mv.y),
-        ref_idx: n.ref_idx,
-    }
+    rust::MvNeighbor { available: n.available, mv: (n.mv.x, n.mv.y), ref_idx: n.ref_idx }
 }
 
 fn done((x, y): (i32, i32)) -> Result<Mv, Refusal> {
@@ -65,11 +57,7 @@ fn done((x, y): (i32, i32)) -> Result<Mv, Refusal> {
 
 fn compare_mv([a, b, c]: [MvNeighbor; 3], cur_ref: i32) {
     let theirs = rust::predict_mv(for_rust(a), for_rust(b), for_rust(c), cur_ref);
-    assert_eq!(
-        predict_mv(a, b, c, cur_ref),
-        done(theirs),
-        "{a:?} {b:?} {c:?} current {cur_ref}"
-    );
+    assert_eq!(predict_mv(a, b, c, cur_ref), done(theirs), "{a:?} {b:?} {c:?} current {cur_ref}");
 }
 
 fn compare_partition_mv(mode: u8, part: usize, [a, b, c]: [MvNeighbor; 3], cur_ref: i32) {
@@ -127,21 +115,13 @@ fn drawn_neighbor(rng: &mut Rng, cur_ref: i32) -> MvNeighbor {
         _ => cur_ref,
     };
     let available = rng.within(0, 2) != 0;
-    neighbor(
-        available,
-        drawn_component(rng),
-        drawn_component(rng),
-        ref_idx,
-    )
+    neighbor(available, drawn_component(rng), drawn_component(rng), ref_idx)
 }
 
 /// Three neighbours and a current reference inside the limits.
 fn drawn_case(rng: &mut Rng) -> ([MvNeighbor; 3], i32) {
     let cur_ref = rng.within(0, 31) as i32;
-    (
-        std::array::from_fn(|_| drawn_neighbor(rng, cur_ref)),
-        cur_ref,
-    )
+    (std::array::from_fn(|_| drawn_neighbor(rng, cur_ref)), cur_ref)
 }
 
 #[test]
@@ -195,44 +175,20 @@ fn an_intra_block_above_is_available() {
     let intra = neighbor(true, 100, 100, -1);
     // Nothing is taken from A: the median is of (4,8), (0,0) and (0,0).
     assert_eq!(predict_mv(a, intra, MvNeighbor::NONE, 1), done((0, 0)));
-    assert_eq!(
-        predict_mv(a, MvNeighbor::NONE, MvNeighbor::NONE, 1),
-        done((4, 8))
-    );
+    assert_eq!(predict_mv(a, MvNeighbor::NONE, MvNeighbor::NONE, 1), done((4, 8)));
     compare_mv([a, intra, MvNeighbor::NONE], 1);
 }
 
 #[test]
 fn a_current_reference_outside_its_range_is_refused() {
-    let refused = MvAnswer {
-        refusal: 7,
-        mv: Mv { x: 0, y: 0 },
-    };
-    let outside = [
-        -1,
-        -2,
-        -31,
-        -32,
-        32,
-        33,
-        63,
-        255,
-        256,
-        65536,
-        1 << 30,
-        i32::MIN,
-        i32::MAX,
-    ];
+    let refused = MvAnswer { refusal: 7, mv: Mv { x: 0, y: 0 } };
+    let outside = [-1, -2, -31, -32, 32, 33, 63, 255, 256, 65536, 1 << 30, i32::MIN, i32::MAX];
     let mut progress = Progress::new("refusal 7");
     let mut rng = Rng::new(3);
     for cur_ref in outside {
         for _ in 0..1000 {
             let [a, b, c] = std::array::from_fn(|_| drawn_neighbor(&mut rng, cur_ref));
-            assert_eq!(
-                ffi::inter_predict_mv(a, b, c, cur_ref),
-                refused,
-                "{cur_ref}"
-            );
+            assert_eq!(ffi::inter_predict_mv(a, b, c, cur_ref), refused, "{cur_ref}");
             assert_eq!(predict_mv(a, b, c, cur_ref), Err(Refusal::Reference));
             progress.step();
             for mode in MODES {
@@ -282,16 +238,11 @@ fn inter_partitions_equals_the_oracle() {
     let mut progress = Progress::new("inter_partitions");
     for mode in 0..=255 {
         let ours = inter_partitions(mode);
-        let theirs: Vec<Rect> = rust::inter_partitions(mode)
-            .iter()
-            .map(|&(x, y, w, h)| Rect { x, y, w, h })
-            .collect();
+        let theirs: Vec<Rect> =
+            rust::inter_partitions(mode).iter().map(|&(x, y, w, h)| Rect { x, y, w, h }).collect();
         assert_eq!(ours.parts(), theirs, "mode {mode}");
         let past = &ours.parts[ours.count..];
-        assert!(
-            past.iter().all(|&part| part == Rect::default()),
-            "mode {mode}: {past:?}"
-        );
+        assert!(past.iter().all(|&part| part == Rect::default()), "mode {mode}: {past:?}");
         progress.step();
     }
     progress.finish();

@@ -26,7 +26,7 @@ impl Rng {
     /// A number from `low` to `high`, both included.
     pub fn within(&mut self, low: i64, high: i64) -> i64 {
         let count = (high - low + 1) as u64;
-        low + ((self.next() >> 32) * count >> 32) as i64
+        low + (((self.next() >> 32) * count) >> 32) as i64
     }
 
     pub fn pick<T: Copy>(&mut self, list: &[T]) -> T {
@@ -59,11 +59,7 @@ pub struct Progress {
 
 impl Progress {
     pub fn new(name: &'static str) -> Progress {
-        Progress {
-            name,
-            calls: 0,
-            said: Instant::now(),
-        }
+        Progress { name, calls: 0, said: Instant::now() }
     }
 
     pub fn step(&mut self) {
@@ -77,9 +73,6 @@ impl Progress {
 
     /// To be called once every answer was found equal.
     pub fn finish(self) {
-        say(&format!(
-            "{}: {} calls, 0 differences",
-            self.name, self.calls
-        ));
+        say(&format!("{}: {} calls, 0 differences", self.name, self.calls));
     }
 }

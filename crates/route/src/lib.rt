@@ -1,0 +1,260 @@
+// Blocks predicted from an area of a buffer, every coordinate clamped to it: read in place where the window lies inside, else by way of a tile.
+ghost use mathlib.Core.Path.{_≡_};
+ghost use mathlib.Core.Bool.{true};
+ghost use Prim.Native.Nat.{_+_, _*_, _-_, _^_, _≤_, _<_};
+ghost use lib.ListN.{length};
+ghost use Rattle.grid.specs.Block.{drawn};
+ghost use Rattle.place.specs.Near.{nearArea};
+ghost use Rattle.samples.specs.Phase.{lumaSample};
+ghost use Rattle.samples.specs.Kernel.{windowAt};
+ghost use Rattle.route.specs.Area.{lumaNear, chromaNear, Lies};
+use place::coords;
+use place::tiles;
+use samples::bilinear;
+use samples::full;
+use samples::phases;
+
+// Where a window starts in the buffer, if it can be read there.
+pub struct Spot {
+    pub inside: bool,
+    pub at: usize,
+}
+
+const NOWHERE: Spot = Spot {
+    inside: false,
+    at: 0,
+};
+
+fn spot(
+    len: usize,
+    p: usize,
+    stride: usize,
+    w: usize,
+    h: usize,
+    x: usize,
+    y: usize,
+    base: usize,
+    ew: usize,
+    eh: usize,
+    lanes: usize,
+) -> Spot
+    requires { ⌜ (0 < w) × (0 < h) × (p + (h - 1) * stride + w ≤ len) × (0 < eh) × (x + ew < 2 ^ 32) × (y + eh < 2 ^ 32) ⌝ }
+    ensures { λ r. ⌜ (r .inside ≡ true → Lies len p stride w h x y base ew eh lanes (r .at)) ⌝ }
+{
+    if x < base {
+        return NOWHERE;
+    }
+    if y < base {
+        return NOWHERE;
+    }
+    if w < x - base + ew {
+        return NOWHERE;
+    }
+    if h < y - base + eh {
+        return NOWHERE;
+    }
+    let at = p + (y - base) * stride + (x - base);
+    let last = at + (eh - 1) * stride;
+    if len - last < lanes {
+        return NOWHERE;
+    }
+    Spot { inside: true, at: at }
+}
+
+// The bw by bh full samples from the place (x, y) on.
+pub fn predict_full(
+    src: &[u8],
+    p: usize,
+    stride: usize,
+    w: usize,
+    h: usize,
+    x: usize,
+    y: usize,
+    base: usize,
+    bw: usize,
+    bh: usize,
+    out: &mut [u8],
+)
+    requires { ⌜ (0 < w) × (0 < h) × (p + (h - 1) * stride + w ≤ length (now src)) × (x < 2 ^ 31) × (y < 2 ^ 31) × (1 ≤ bh) × (bw ≤ 16) × (bh ≤ 16) × (bw * bh ≤ length (now out)) ⌝ }
+    ensures { λ _. ⌜ now (out .exit) ≡ drawn (now (out .entry)) bw bh (λ c r. nearArea (now (src .entry)) p stride w h base (x + c) (y + r)) ⌝ }
+{
+    let s = spot(src.len(), p, stride, w, h, x, y, base, bw, bh, 16);
+    if s.inside {
+        full::luma_full(src, s.at, stride, bw, bh, out);
+        return;
+    }
+    tiles::clamped_area(src, p, stride, w, h, x, y, base, bw, bh, out);
+}
+
+// The luma block of a phase whose window starts at src[at].
+fn luma_direct(
+    src: &[u8],
+    at: usize,
+    stride: usize,
+    fx: usize,
+    fy: usize,
+    bw: usize,
+    bh: usize,
+    out: &mut [u8],
+)
+    requires { ⌜ (fx < 4) × (fy < 4) × (at + (bh + 4) * stride + 21 ≤ length (now src)) × (1 ≤ bh) × (bw ≤ 16) × (bh ≤ 16) × (bw * bh ≤ length (now out)) ⌝ }
+    ensures { λ _. ⌜ now (out .exit) ≡ drawn (now (out .entry)) bw bh (λ c r. lumaSample 255 fx fy (windowAt (now (src .entry)) at stride c r)) ⌝ }
+{
+    let mut a = [0u8; 256];
+    let mut b = [0u8; 256];
+    phases::luma_block(src, at, stride, fx, fy, bw, bh, &mut a, &mut b, out);
+}
+
+// The luma block of a phase by way of its clamped tile.
+fn luma_tiled(
+    src: &[u8],
+    p: usize,
+    stride: usize,
+    w: usize,
+    h: usize,
+    x: usize,
+    y: usize,
+    fx: usize,
+    fy: usize,
+    bw: usize,
+    bh: usize,
+    out: &mut [u8],
+)
+    requires { ⌜ (0 < w) × (0 < h) × (p + (h - 1) * stride + w ≤ length (now src)) × (x < 2 ^ 31) × (y < 2 ^ 31) × (fx < 4) × (fy < 4) × (1 ≤ bh) × (bw ≤ 16) × (bh ≤ 16) × (bw * bh ≤ length (now out)) ⌝ }
+    ensures { λ _. ⌜ now (out .exit) ≡ drawn (now (out .entry)) bw bh (lumaNear (now (src .entry)) p stride w h x y fx fy) ⌝ }
+{
+    let mut tile = [0u8; 441];
+    tiles::luma_tile_into(&mut tile, src, p, stride, w, h, x, y, bw, bh);
+    luma_direct(&tile, 0, bw + 5, fx, fy, bw, bh, out);
+}
+
+// The luma block of a phase at the place (x, y), 2^29 up.
+pub fn predict_luma(
+    src: &[u8],
+    p: usize,
+    stride: usize,
+    w: usize,
+    h: usize,
+    x: usize,
+    y: usize,
+    fx: usize,
+    fy: usize,
+    bw: usize,
+    bh: usize,
+    out: &mut [u8],
+)
+    requires { ⌜ (0 < w) × (0 < h) × (p + (h - 1) * stride + w ≤ length (now src)) × (x < 2 ^ 31) × (y < 2 ^ 31) × (fx < 4) × (fy < 4) × (1 ≤ bh) × (bw ≤ 16) × (bh ≤ 16) × (bw * bh ≤ length (now out)) ⌝ }
+    ensures { λ _. ⌜ now (out .exit) ≡ drawn (now (out .entry)) bw bh (lumaNear (now (src .entry)) p stride w h x y fx fy) ⌝ }
+{
+    if fx + fy == 0 {
+        predict_full(src, p, stride, w, h, x, y, coords::LUMA_BASE, bw, bh, out);
+        return;
+    }
+    let s = spot(
+        src.len(),
+        p,
+        stride,
+        w,
+        h,
+        x,
+        y,
+        coords::LUMA_BASE + 2,
+        bw + 5,
+        bh + 5,
+        21,
+    );
+    if s.inside {
+        luma_direct(src, s.at, stride, fx, fy, bw, bh, out);
+        return;
+    }
+    luma_tiled(src, p, stride, w, h, x, y, fx, fy, bw, bh, out);
+}
+
+// The chroma block of a phase by way of its clamped tile.
+fn chroma_tiled(
+    src: &[u8],
+    p: usize,
+    stride: usize,
+    w: usize,
+    h: usize,
+    x: usize,
+    y: usize,
+    fx: usize,
+    fy: usize,
+    bw: usize,
+    bh: usize,
+    out: &mut [u8],
+)
+    requires { ⌜ (0 < w) × (0 < h) × (p + (h - 1) * stride + w ≤ length (now src)) × (x < 2 ^ 31) × (y < 2 ^ 31) × (fx < 8) × (fy < 8) × (bw ≤ 8) × (bh ≤ 8) × (bw * bh ≤ length (now out)) ⌝ }
+    ensures { λ _. ⌜ now (out .exit) ≡ drawn (now (out .entry)) bw bh (chromaNear (now (src .entry)) p stride w h x y fx fy) ⌝ }
+{
+    let mut tile = [0u8; 81];
+    tiles::clamped_area(
+        src,
+        p,
+        stride,
+        w,
+        h,
+        x,
+        y,
+        coords::CHROMA_BASE,
+        bw + 1,
+        bh + 1,
+        &mut tile,
+    );
+    bilinear::chroma_block(&tile, 0, bw + 1, fx, fy, bw, bh, out);
+}
+
+// The chroma block of a phase at the place (x, y), 2^28 up.
+pub fn predict_chroma(
+    src: &[u8],
+    p: usize,
+    stride: usize,
+    w: usize,
+    h: usize,
+    x: usize,
+    y: usize,
+    fx: usize,
+    fy: usize,
+    bw: usize,
+    bh: usize,
+    out: &mut [u8],
+)
+    requires { ⌜ (0 < w) × (0 < h) × (p + (h - 1) * stride + w ≤ length (now src)) × (x < 2 ^ 31) × (y < 2 ^ 31) × (fx < 8) × (fy < 8) × (1 ≤ bh) × (bw ≤ 8) × (bh ≤ 8) × (bw * bh ≤ length (now out)) ⌝ }
+    ensures { λ _. ⌜ now (out .exit) ≡ drawn (now (out .entry)) bw bh (chromaNear (now (src .entry)) p stride w h x y fx fy) ⌝ }
+{
+    if fx + fy == 0 {
+        predict_full(
+            src,
+            p,
+            stride,
+            w,
+            h,
+            x,
+            y,
+            coords::CHROMA_BASE,
+            bw,
+            bh,
+            out,
+        );
+        return;
+    }
+    let s = spot(
+        src.len(),
+        p,
+        stride,
+        w,
+        h,
+        x,
+        y,
+        coords::CHROMA_BASE,
+        bw + 1,
+        bh + 1,
+        9,
+    );
+    if s.inside {
+        bilinear::chroma_block(src, s.at, stride, fx, fy, bw, bh, out);
+        return;
+    }
+    chroma_tiled(src, p, stride, w, h, x, y, fx, fy, bw, bh, out);
+}
