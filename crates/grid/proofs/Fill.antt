@@ -159,3 +159,7 @@ drawn-at d w h f c r a b =
 pub flat-drawn : (d : List ℕ) (w h : ℕ) (g : ℕ → ℕ) → put d 0 (w * h) g ≡ drawn d w h (λ c r. g (r * w + c))
 unfolding byRows
 flat-drawn d w h g = put-ext d 0 (w * h) g (byRows w (λ c r. g (r * w + c))) (λ i b. ap g (sym (div-add-mod' i w))) ∙ sym (drawn-put d w h (λ c r. g (r * w + c)))
+
+pub drawn-sample : (d : List ℕ) (w h : ℕ) (f : ℕ → ℕ → ℕ) (c r : ℕ) → c < w → r < h → sample (drawn d w h f) w c r ≡ f c r
+unfolding sample
+drawn-sample d w h f c r a b = drawn-at d w h f c r a b

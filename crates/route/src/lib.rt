@@ -58,7 +58,10 @@ fn spot(
     if len - last < lanes {
         return NOWHERE;
     }
-    Spot { inside: true, at: at }
+    Spot {
+        inside: true,
+        at: at,
+    }
 }
 
 // The bw by bh full samples from the place (x, y) on.
@@ -224,19 +227,7 @@ pub fn predict_chroma(
     ensures { λ _. ⌜ now (out .exit) ≡ drawn (now (out .entry)) bw bh (chromaNear (now (src .entry)) p stride w h x y fx fy) ⌝ }
 {
     if fx + fy == 0 {
-        predict_full(
-            src,
-            p,
-            stride,
-            w,
-            h,
-            x,
-            y,
-            coords::CHROMA_BASE,
-            bw,
-            bh,
-            out,
-        );
+        predict_full(src, p, stride, w, h, x, y, coords::CHROMA_BASE, bw, bh, out);
         return;
     }
     let s = spot(

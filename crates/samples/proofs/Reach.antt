@@ -1,5 +1,5 @@
 -- Laws of the phases: every anchor is near, an anchor named twice is itself, and a sample depends on its window alone. Assumes nothing.
-use mathlib.Core.Path.{_≡_, refl, ap, ap₂, _∙_}
+use mathlib.Core.Path.{_≡_, refl, sym, ap, ap₂, _∙_}
 use mathlib.Core.Bool.{Bool, true, false, _&&_}
 use mathlib.Core.List.{List, [], _∷_}
 use Prim.Native.Nat.{ℕ, zero, suc, _+_, _*_, _/_, _<_, _≤_}
@@ -94,3 +94,36 @@ pub chroma-four : (fx fy : ℕ) (W U : ℕ → ℕ → ℕ) → ((i j : ℕ) →
 unfolding chromaSample
 chroma-four fx fy W U e =
     cc (e 0 0 (omega arith) (omega arith), e 1 0 (omega arith) (omega arith), e 0 1 (omega arith) (omega arith), e 1 1 (omega arith) (omega arith))
+
+-- an anchor's sample, by its kind
+module _ (top : ℕ) (W : Window) (k : Anchor) where
+  pub at-full : k .kind ≡ 0 → anchor top W k ≡ W (2 + k .dx) (2 + k .dy)
+  unfolding anchor
+  at-full e = ap (λ (n : ℕ). anchorOf top W n (k .dx) (k .dy)) e
+
+  pub at-across : k .kind ≡ 1 → anchor top W k ≡ half top (λ i. W i (2 + k .dy))
+  unfolding anchor
+  at-across e = ap (λ (n : ℕ). anchorOf top W n (k .dx) (k .dy)) e
+
+  pub at-down : k .kind ≡ 2 → anchor top W k ≡ half top (λ j. W (2 + k .dx) j)
+  unfolding anchor
+  at-down e = ap (λ (n : ℕ). anchorOf top W n (k .dx) (k .dy)) e
+
+  pub at-centre : (k .kind ≡ 0 → ⊥) → (k .kind ≡ 1 → ⊥) → (k .kind ≡ 2 → ⊥) → anchor top W k ≡ centre top W
+  unfolding anchor
+  at-centre = other (k .kind)
+    where
+      other : (n : ℕ) → (n ≡ 0 → ⊥) → (n ≡ 1 → ⊥) → (n ≡ 2 → ⊥) → anchorOf top W n (k .dx) (k .dy) ≡ centre top W
+      other zero a b c = absurd (a refl)
+      other (suc zero) a b c = absurd (b refl)
+      other (suc (suc zero)) a b c = absurd (c refl)
+      other (suc (suc (suc n))) a b c = refl
+
+-- the rule of a phase, of its anchors
+module _ (top fx fy : ℕ) (W : Window) (f : Phase) (e : f ≡ phaseOf fx fy) where
+  pub luma-two : mean (anchor top W (f .p)) (anchor top W (f .q)) ≡ lumaSample top fx fy W
+  unfolding lumaSample
+  luma-two = ap (λ (g : Phase). mean (anchor top W (g .p)) (anchor top W (g .q))) e
+
+  pub luma-one : f .p ≡ f .q → anchor top W (f .p) ≡ lumaSample top fx fy W
+  luma-one s = sym (mean-same _) ∙ ap (λ (k : Anchor). mean (anchor top W (f .p)) (anchor top W k)) s ∙ luma-two

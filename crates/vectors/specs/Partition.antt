@@ -1,18 +1,17 @@
 -- Partitions and their vectors, document 01, "Vectors" (Rec. ITU-T H.264, clause 8.4.1.3), over the integers.
 -- Assumes nothing.
-use mathlib.Core.Bool.{Bool, true, false, _&&_, _||_}
+use mathlib.Core.Bool.{Bool, _&&_}
 use mathlib.Core.List.{List, [], _∷_}
 use Prim.Native.Nat.{ℕ}
 use lib.Dec.{eqb}
-use lib.IntN.{ℤ, pos}
-use lib.Signed.{ltZ}
+use lib.IntN.{ℤ}
 use Rattle.signed.specs.Order.{eqZ}
 use Rattle.vectors.specs.declared.Mv.{Mv}
 use Rattle.vectors.specs.declared.MvNeighbor.{MvNeighbor}
 use Rattle.vectors.specs.declared.MvAnswer.{MvAnswer}
 use Rattle.vectors.specs.declared.Rect.{Rect}
 use Rattle.vectors.specs.declared.Partitions.{Partitions}
-use Rattle.vectors.specs.Predict.{pick, zeroMv, predictAnswer}
+use Rattle.vectors.specs.Predict.{pick, badReference, noReference, predictAnswer}
 
 -- which neighbour a part of a mode takes directly: 0 none, 1 A, 2 B, 3 C
 unfoldable pub sideOf : ℕ → ℕ → ℕ
@@ -29,7 +28,7 @@ directAnswer n a b c cur = pick (served n cur) (record { refusal = 0; mv = n .mv
 
 unfoldable pub partitionAnswer : ℕ → ℕ → MvNeighbor → MvNeighbor → MvNeighbor → ℤ → MvAnswer
 partitionAnswer mode part a b c cur =
-    pick (ltZ cur (pos 0) || ltZ (pos 31) cur) (record { refusal = 7; mv = zeroMv })
+    pick (badReference cur) noReference
     (pick (eqb (sideOf mode part) 1) (directAnswer a a b c cur)
     (pick (eqb (sideOf mode part) 2) (directAnswer b a b c cur)
     (pick (eqb (sideOf mode part) 3) (directAnswer c a b c cur) (predictAnswer a b c cur))))

@@ -49,8 +49,12 @@ predicted a b c cur =
     (chosenMv (resolved a) (resolved a) (resolved a) cur)
     (chosenMv (resolved a) (resolved b) (resolved c) cur)
 
--- refused with 7 exactly when the current reference is outside 0..31
+-- 7: the current reference is outside 0..31
+unfoldable pub badReference : ℤ → Bool
+badReference cur = ltZ cur (pos 0) || ltZ (pos 31) cur
+
+abbrev pub noReference : MvAnswer
+noReference = record { refusal = 7; mv = zeroMv }
+
 unfoldable pub predictAnswer : MvNeighbor → MvNeighbor → MvNeighbor → ℤ → MvAnswer
-predictAnswer a b c cur =
-    pick (ltZ cur (pos 0) || ltZ (pos 31) cur) (record { refusal = 7; mv = zeroMv })
-    (record { refusal = 0; mv = predicted a b c cur })
+predictAnswer a b c cur = pick (badReference cur) noReference (record { refusal = 0; mv = predicted a b c cur })

@@ -2,7 +2,7 @@
 ghost use mathlib.Core.Path.{_≡_};
 ghost use mathlib.Core.Bool.{not, _&&_};
 ghost use Rattle.vectors.specs.Median.{median};
-ghost use Rattle.vectors.specs.Predict.{resolved, medianMv, chosenMv, predicted, predictAnswer};
+ghost use Rattle.vectors.specs.Predict.{resolved, medianMv, chosenMv, predicted, badReference, predictAnswer};
 ghost use Rattle.vectors.specs.Partition.{sideOf, served, directAnswer, partitionAnswer, partitionsOf};
 
 // The wrapping sum of the three less the smallest and the largest: the sum may pass the ends of 32 bits and comes back.
@@ -125,13 +125,16 @@ fn rule(a: MvNeighbor, b: MvNeighbor, c: MvNeighbor, cur_ref: i32) -> Mv
     chosen(x, resolve(b), resolve(c), cur_ref)
 }
 
+fn bad_reference(cur_ref: i32) -> bool
+    ensures { λ r. ⌜ r ≡ badReference «cur_ref» ⌝ }
+{
+    (cur_ref < 0) | (31 < cur_ref)
+}
+
 pub fn predict_mv(a: MvNeighbor, b: MvNeighbor, c: MvNeighbor, cur_ref: i32) -> MvAnswer
     ensures { λ r. ⌜ r ≡ predictAnswer a b c «cur_ref» ⌝ }
 {
-    if cur_ref < 0 {
-        return NO_REFERENCE;
-    }
-    if 31 < cur_ref {
+    if bad_reference(cur_ref) {
         return NO_REFERENCE;
     }
     let m = rule(a, b, c, cur_ref);
@@ -193,10 +196,7 @@ pub fn predict_partition_mv(
 ) -> MvAnswer
     ensures { λ r. ⌜ r ≡ partitionAnswer mode part a b c «cur_ref» ⌝ }
 {
-    if cur_ref < 0 {
-        return NO_REFERENCE;
-    }
-    if 31 < cur_ref {
+    if bad_reference(cur_ref) {
         return NO_REFERENCE;
     }
     let k = side(mode, part);

@@ -1,30 +1,28 @@
--- `vectors::predict_mv` meets its contract.
--- Assumes nothing.
+-- `vectors::predict_mv` meets its contract. Assumes nothing.
 use borrow.Author.Needs.{needs}
-use mathlib.Core.Path.{_≡_, sym, _∙_}
+use mathlib.Core.Path.{_≡_, sym, ap, _∙_}
+use mathlib.Core.Bool.{Bool}
 use mir.Facts.{toZ-ofZ}
-use Rattle.vectors.specs.Predict.{predictAnswer}
+use Rattle.vectors.specs.Predict.{badReference, predictAnswer}
 use Rattle.vectors.proofs.predict_mv.Statement.{statement}
 use Rattle.vectors.proofs.predict_mv.Tie as tie
 
-returns : tie.Need-returns
-unfolding predictAnswer
-returns c = simp (simp (toZ-ofZ (c .before .fits .cur-ref)) at (c .if1 .taken))
+-- the test, of the number and not of its bits
+tested : (c : tie.After-bad-reference) → badReference (c .before .args .cur-ref) ≡ c .bad-reference .result
+tested c = sym (simp (toZ-ofZ (c .before .fits .cur-ref)) at (c .bad-reference .ensures))
 
 returns-2 : tie.Need-returns-2
 unfolding predictAnswer
 returns-2 c =
-    let back = toZ-ofZ (c .before .before .fits .cur-ref) in
-    simp (simp back at (c .before .if1 .left), simp back at (c .if2 .taken))
-
-rule-requires : tie.Need-rule-requires
-rule-requires c κs = search needs
-
-returns-3 : tie.Need-returns-3
-unfolding predictAnswer
-returns-3 c =
-    let back = toZ-ofZ (c .before .before .before .fits .cur-ref) in
-    simp (simp back at (c .before .before .if1 .left), simp back at (c .before .if2 .left), simp back at (c .rule .ensures))
+    let k = c .before in
+    rw (tested (k .before) ∙ k .if1 .left) (simp (simp (toZ-ofZ (k .before .before .fits .cur-ref)) at (c .rule .ensures)))
 
 pub predict-mv-spec : {M : Type 1} → statement M
-predict-mv-spec = tie.close (tie.spec returns returns-2 rule-requires returns-3)
+unfolding predictAnswer
+predict-mv-spec =
+    tie.close
+    (tie.spec
+    (λ c κs. search needs)
+    (λ c. rw (tested (c .before) ∙ c .if1 .taken))
+    (λ c κs. search needs)
+    returns-2)

@@ -1,9 +1,10 @@
--- `samples::full::full_rows` meets its contract. The loop's invariant: the first r rows are written. Assumes nothing.
+-- `samples::full::full_rows` meets its contract: the loop's invariant is that the first r rows are written. Assumes nothing.
 use mathlib.Core.Path.{_≡_, refl}
-use Prim.Native.Nat.{ℕ, _≤_, _+_, _*_, _-_}
+use Prim.Native.Nat.{ℕ, _+_, _*_, _-_}
 use native.Mathlib.Omega.{arith}
-use lib.ListN.{length, getD}
-use Rattle.grid.proofs.Loop.{Rows, rows-none, rows-more, rows-room, rows-done, row-le}
+use lib.ListN.{getD}
+use Rattle.grid.proofs.Loop.{Rows, rows-none, rows-more, rows-done}
+use Rattle.samples.proofs.Rows.{row-in}
 use Rattle.samples.proofs.full.full_rows.Statement.{statement}
 use Rattle.samples.proofs.full.full_rows.Tie as tie
 
@@ -13,16 +14,6 @@ Inv-loop t p ts bw bh dst₀ r₀ dst r = Rows dst₀ bw bh (λ c r. getD t (p +
 abbrev μ-loop : tie.MeasureT-loop
 μ-loop t p ts bw bh dst₀ r₀ dst r = bh - r
 
--- where the row is read, and where it goes
-lie : (c : tie.In-loop Inv-loop μ-loop) → let a = c .before .before .before .before .args in
-    (c .before .loop .r * a .ts ≤ (a .bh - 1) * a .ts) × (c .before .loop .r * a .bw + a .bw ≤ length (c .before .loop .dst))
-lie c = (row-le _ _ _ (c .loop-test .taken), rows-room (c .before .loop .inv) (c .loop-test .taken))
-
-loop-again : tie.Need-loop-again Inv-loop μ-loop
-loop-again c =
-    let f = c .before .before in
-    rows-more (f .before .before .before .loop .inv) (f .before .before .loop-test .taken) (f .full-row .ensures) (λ x h. refl)
-
 pub full-rows-spec : {M : Type 1} → statement M
 full-rows-spec =
     tie.close
@@ -30,12 +21,12 @@ full-rows-spec =
     Inv-loop
     μ-loop
     (λ c. rows-none _ _ _ _ (omega arith))
-    (λ c. omega (arith, lie c))
-    (λ c. omega (arith, lie c))
-    (λ c. omega (arith, lie (c .before)))
-    (λ c κs. omega (arith, lie (c .before)))
+    (λ c. omega (arith, row-in (c .before .before .before .before .args .ts) (c .before .loop .inv) (c .loop-test .taken)))
+    (λ c. omega (arith, row-in (c .before .before .before .before .args .ts) (c .before .loop .inv) (c .loop-test .taken)))
+    (λ c. omega (arith, row-in 0 (c .before .before .loop .inv) (c .before .loop-test .taken)))
+    (λ c κs. omega (arith, row-in (c .before .before .before .before .before .args .ts) (c .before .before .loop .inv) (c .before .loop-test .taken)))
     (λ c. omega arith)
     (λ c. omega arith)
-    loop-again
+    (λ c. rows-more (c .before .before .before .before .before .loop .inv) (omega arith) (c .before .before .full-row .ensures) (λ x h. refl))
     (λ c. omega arith)
     (λ c. rows-done (c .before .loop .inv) (omega arith)))
