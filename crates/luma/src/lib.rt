@@ -53,7 +53,10 @@ pub fn avg_row_into(a: &[u8], b: &[u8], w: usize, out: &mut [u8]) -> u32
     ensures { λ r. ⌜ (r ≡ rowRefusal (length (now (a .entry))) (length (now (b .entry))) w (length (now (out .entry))))
         × (now (out .exit) ≡ after r (now (out .entry)) (drawn (now (out .entry)) w 1 (rowMean (now (a .entry)) (now (b .entry))))) ⌝ }
 {
-    if (a.len() < w) | (b.len() < w) {
+    if a.len() < w {
+        return limits::SHORT_SOURCE;
+    }
+    if b.len() < w {
         return limits::SHORT_SOURCE;
     }
     if out.len() < w {

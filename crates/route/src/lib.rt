@@ -25,7 +25,7 @@ const NOWHERE: Spot = Spot {
     at: 0,
 };
 
-fn spot(
+fn locate(
     len: usize,
     p: usize,
     stride: usize,
@@ -81,7 +81,7 @@ pub fn predict_full(
     requires { ⌜ (0 < w) × (0 < h) × (p + (h - 1) * stride + w ≤ length (now src)) × (x < 2 ^ 31) × (y < 2 ^ 31) × (1 ≤ bh) × (bw ≤ 16) × (bh ≤ 16) × (bw * bh ≤ length (now out)) ⌝ }
     ensures { λ _. ⌜ now (out .exit) ≡ drawn (now (out .entry)) bw bh (λ c r. nearArea (now (src .entry)) p stride w h base (x + c) (y + r)) ⌝ }
 {
-    let s = spot(src.len(), p, stride, w, h, x, y, base, bw, bh, 16);
+    let s = locate(src.len(), p, stride, w, h, x, y, base, bw, bh, 16);
     if s.inside {
         full::luma_full(src, s.at, stride, bw, bh, out);
         return;
@@ -153,7 +153,7 @@ pub fn predict_luma(
         predict_full(src, p, stride, w, h, x, y, coords::LUMA_BASE, bw, bh, out);
         return;
     }
-    let s = spot(
+    let s = locate(
         src.len(),
         p,
         stride,
@@ -230,7 +230,7 @@ pub fn predict_chroma(
         predict_full(src, p, stride, w, h, x, y, coords::CHROMA_BASE, bw, bh, out);
         return;
     }
-    let s = spot(
+    let s = locate(
         src.len(),
         p,
         stride,

@@ -127,3 +127,12 @@ module _ (top fx fy : ℕ) (W : Window) (f : Phase) (e : f ≡ phaseOf fx fy) wh
 
   pub luma-one : f .p ≡ f .q → anchor top W (f .p) ≡ lumaSample top fx fy W
   luma-one s = sym (mean-same _) ∙ ap (λ (k : Anchor). mean (anchor top W (f .p)) (anchor top W k)) s ∙ luma-two
+
+-- at a full phase the sample is the place's own
+pub luma-full : (top : ℕ) (W : Window) → lumaSample top 0 0 W ≡ W 2 2
+unfolding lumaSample phases anchor
+luma-full top W = mean-same (W 2 2)
+
+pub chroma-full : (W : ℕ → ℕ → ℕ) → chromaSample 0 0 W ≡ W 0 0
+unfolding chromaSample
+chroma-full W = omega arith

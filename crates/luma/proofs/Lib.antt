@@ -1,0 +1,3 @@
+-- Laws of the plain luma route, and that its contracts determine their outcomes.
+pub mod Bridge
+pub mod Only

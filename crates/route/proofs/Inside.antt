@@ -1,0 +1,92 @@
+-- A window that lies inside its area is read where it lies; a tile reads as the windows of its block. Assumes nothing.
+use mathlib.Core.Path.{_≡_, sym, ap, ap₂, _∙_}
+use mathlib.Core.List.{List}
+use Prim.Native.Nat.{ℕ, _+_, _*_, _-_, _^_, _≤_, _<_}
+use native.Mathlib.Nat.{mul-le-mul-right, add-zero}
+use native.Mathlib.Omega.{arith}
+use lib.ListN.{getD}
+use Rattle.grid.specs.Block.{drawn}
+use Rattle.grid.proofs.Fill.{drawn-at}
+use Rattle.place.specs.Near.{near, nearArea}
+use Rattle.samples.specs.Phase.{Window, lumaSample}
+use Rattle.samples.specs.Bilinear.{chromaSample}
+use Rattle.samples.specs.Kernel.{windowAt}
+use Rattle.samples.proofs.Reach.{luma-six, luma-full, chroma-four, chroma-full}
+use Rattle.route.specs.Area.{lumaNear, chromaNear, Lies}
+
+-- the last row of a window that ends inside starts no later than the area's last row
+pub rows-in : (j e h s : ℕ) → 0 < e → j + e ≤ h → j * s + (e - 1) * s ≤ (h - 1) * s
+rows-in j e h s p q = let b : j + (e - 1) ≤ h - 1 = omega arith in omega (arith, mul-le-mul-right s b)
+
+-- on one axis: a place inside is not moved
+near-on : (base n at i e : ℕ) → base ≤ at → at - base + e ≤ n → i < e → near base n (at + i) ≡ at - base + i
+near-on base n at i e a b c = omega arith
+
+-- READING IN PLACE: a sample of the window at (x, y)
+pub in-place : (src : List ℕ) {len p stride w h x y base ew eh lanes at : ℕ} → Lies len p stride w h x y base ew eh lanes at
+    → (i j : ℕ) → i < ew → j < eh → nearArea src p stride w h base (x + i) (y + j) ≡ getD src (at + j * stride + i) 0
+unfolding nearArea
+in-place src {p = p} {stride = stride} {w = w} {h = h} {x = x} {y = y} {base = base} {at = at} l i j a b =
+    ap₂ (λ (u v : ℕ). getD src (p + v * stride + u) 0) (near-on base w x i _ (l .left) (l .right) a) (near-on base h y j _ (l .above) (l .below) b)
+    ∙ ap (λ (k : ℕ). getD src k 0) (index p stride (x - base) (y - base) i j at (l .start))
+  where
+    index : (p s u v i j at : ℕ) → at ≡ p + v * s + u → p + (v + j) * s + (u + i) ≡ at + j * s + i
+    index p s u v i j at e = omega arith
+
+-- READING A TILE that was drawn of the area: a sample of the window at (c, r)
+pub in-tile : (src t₀ : List ℕ) {t : List ℕ} (p stride w h x y base tw th : ℕ)
+    → t ≡ drawn t₀ tw th (λ i j. nearArea src p stride w h base (x + i) (y + j))
+    → (c r i j : ℕ) → c + i < tw → r + j < th → windowAt t 0 tw c r i j ≡ nearArea src p stride w h base (x + c + i) (y + r + j)
+unfolding windowAt
+in-tile src t₀ {t} p stride w h x y base tw th e c r i j a b =
+    let f : 0 + (r + j) * tw + (c + i) ≡ (r + j) * tw + (c + i) = omega arith in
+    let g : x + (c + i) ≡ x + c + i = omega arith in
+    let k : y + (r + j) ≡ y + r + j = omega arith in
+    ap₂ (λ (l : List ℕ) (n : ℕ). getD l n 0) e f ∙ drawn-at t₀ tw th _ (c + i) (r + j) a b ∙ ap₂ (nearArea src p stride w h base) g k
+
+-- a place two up is column 2 and row 2 of its window
+two-up : (b n at : ℕ) → near b n at ≡ near (b + 2) n (at + 2)
+two-up b n at = omega arith
+
+-- at a full phase: the sample at the place itself
+pub luma-at-full : (src : List ℕ) (p stride w h x y fx fy c r : ℕ) → fx + fy ≡ 0
+    → nearArea src p stride w h (2 ^ 29) (x + c) (y + r) ≡ lumaNear src p stride w h x y fx fy c r
+unfolding lumaNear nearArea
+luma-at-full src p stride w h x y fx fy c r e =
+    let ex : 0 ≡ fx = omega arith in
+    let ey : 0 ≡ fy = omega arith in
+    ap₂ (λ (u v : ℕ). getD src (p + v * stride + u) 0) (two-up (2 ^ 29) w (x + c)) (two-up (2 ^ 29) h (y + r))
+    ∙ sym (luma-full 255 (λ i j. nearArea src p stride w h (2 ^ 29 + 2) (x + c + i) (y + r + j)))
+    ∙ ap₂ (λ (u v : ℕ). lumaSample 255 u v (λ i j. nearArea src p stride w h (2 ^ 29 + 2) (x + c + i) (y + r + j))) ex ey
+
+pub chroma-at-full : (src : List ℕ) (p stride w h x y fx fy c r : ℕ) → fx + fy ≡ 0
+    → nearArea src p stride w h (2 ^ 28) (x + c) (y + r) ≡ chromaNear src p stride w h x y fx fy c r
+unfolding chromaNear
+chroma-at-full src p stride w h x y fx fy c r e =
+    let ex : 0 ≡ fx = omega arith in
+    let ey : 0 ≡ fy = omega arith in
+    ap₂ (nearArea src p stride w h (2 ^ 28)) (sym (add-zero (x + c))) (sym (add-zero (y + r)))
+    ∙ sym (chroma-full (λ i j. nearArea src p stride w h (2 ^ 28) (x + c + i) (y + r + j)))
+    ∙ ap₂ (λ (u v : ℕ). chromaSample u v (λ i j. nearArea src p stride w h (2 ^ 28) (x + c + i) (y + r + j))) ex ey
+
+-- at any phase: windows that are read in place, or out of a tile
+pub luma-windows : (src : List ℕ) (p stride w h x y fx fy c r : ℕ) (W : Window)
+    → ((i j : ℕ) → i < 6 → j < 6 → W i j ≡ nearArea src p stride w h (2 ^ 29 + 2) (x + c + i) (y + r + j))
+    → lumaSample 255 fx fy W ≡ lumaNear src p stride w h x y fx fy c r
+unfolding lumaNear
+luma-windows src p stride w h x y fx fy c r W e = luma-six 255 W _ e fx fy
+
+pub chroma-windows : (src : List ℕ) (p stride w h x y fx fy c r : ℕ) (W : Window)
+    → ((i j : ℕ) → i < 2 → j < 2 → W i j ≡ nearArea src p stride w h (2 ^ 28) (x + c + i) (y + r + j))
+    → chromaSample fx fy W ≡ chromaNear src p stride w h x y fx fy c r
+unfolding chromaNear
+chroma-windows src p stride w h x y fx fy c r W e = chroma-four fx fy W _ e
+
+-- the windows of a block that lies inside
+pub place-windows : (src : List ℕ) {len p stride w h x y base ew eh lanes at : ℕ} → Lies len p stride w h x y base ew eh lanes at
+    → (c r i j : ℕ) → c + i < ew → r + j < eh → windowAt src at stride c r i j ≡ nearArea src p stride w h base (x + c + i) (y + r + j)
+unfolding windowAt
+place-windows src {p = p} {stride = stride} {w = w} {h = h} {x = x} {y = y} {base = base} l c r i j a b =
+    let g : x + (c + i) ≡ x + c + i = omega arith in
+    let k : y + (r + j) ≡ y + r + j = omega arith in
+    sym (in-place src l (c + i) (r + j) a b) ∙ ap₂ (nearArea src p stride w h base) g k
