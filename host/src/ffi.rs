@@ -45,6 +45,15 @@ pub struct Partitions {
     pub parts: [Rect; 4],
 }
 
+/// The edge count of a block: 0 where `refusal` is not 0.
+#[repr(C)]
+#[derive(Clone, Copy, Debug, PartialEq, Eq)]
+pub struct Edges {
+    pub refusal: u32,
+    pub count: u32,
+}
+
+// The unsafe ones read and write through each pointer up to the length after it.
 unsafe extern "C" {
     pub safe fn inter_median3(a: i32, b: i32, c: i32) -> i32;
 
@@ -65,4 +74,55 @@ unsafe extern "C" {
     ) -> MvAnswer;
 
     pub safe fn inter_inter_partitions(mode: u8) -> Partitions;
+
+    pub unsafe fn inter_mc_luma(
+        reference: *const u8,
+        reference_len: usize,
+        cw: usize,
+        ch: usize,
+        x0: usize,
+        y0: usize,
+        bw: usize,
+        bh: usize,
+        mvx: i32,
+        mvy: i32,
+        out: *mut u8,
+        out_len: usize,
+    ) -> u32;
+
+    pub unsafe fn inter_mc_chroma(
+        reference: *const u8,
+        reference_len: usize,
+        cw: usize,
+        ch: usize,
+        x0: usize,
+        y0: usize,
+        bw: usize,
+        bh: usize,
+        mvx: i32,
+        mvy: i32,
+        out: *mut u8,
+        out_len: usize,
+    ) -> u32;
+
+    pub unsafe fn inter_avg_row_into(
+        a: *const u8,
+        a_len: usize,
+        b: *const u8,
+        b_len: usize,
+        w: usize,
+        out: *mut u8,
+        out_len: usize,
+    ) -> u32;
+
+    pub safe fn inter_edge_count(
+        cw: usize,
+        ch: usize,
+        x0: usize,
+        y0: usize,
+        bw: usize,
+        bh: usize,
+        mvx: i32,
+        mvy: i32,
+    ) -> Edges;
 }

@@ -5,9 +5,11 @@
 //! was lent has changed.
 
 pub mod ffi;
+mod plain;
 mod refusal;
 mod vectors;
 
+pub use plain::{avg_row_into, edge_count, mc_chroma, mc_luma};
 pub use refusal::Refusal;
 pub use vectors::{
     inter_partitions, median3, predict_mv, predict_partition_mv, Mv, MvNeighbor, Partitions, Rect,

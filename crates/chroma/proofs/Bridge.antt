@@ -9,11 +9,11 @@ use Rattle.place.specs.Place.{phase}
 use Rattle.place.proofs.Windows.{corner-is}
 use Rattle.samples.proofs.Reach.{chroma-four}
 use Rattle.route.specs.Area.{chromaNear}
-use Rattle.chroma.specs.Chroma.{predicted}
+use Rattle.chroma.specs.Chroma.{predictedChroma}
 
 module _ (pic : List ℕ) (w h x0 y0 : ℕ) (mvx mvy : ℤ) (p : mag mvx < 2 ^ 31) (q : mag mvy < 2 ^ 31) where
   pub near-predicted : {x y fx fy : ℕ} → x ≡ x0 + up (2 ^ 31) mvx / 8 → y ≡ y0 + up (2 ^ 31) mvy / 8 → fx ≡ phase mvx 8 → fy ≡ phase mvy 8
-      → (c r : ℕ) → chromaNear pic 0 w w h x y fx fy c r ≡ predicted pic w h x0 y0 mvx mvy c r
-  unfolding chromaNear predicted
+      → (c r : ℕ) → chromaNear pic 0 w w h x y fx fy c r ≡ predictedChroma pic w h x0 y0 mvx mvy c r
+  unfolding chromaNear predictedChroma
   near-predicted ex ey efx efy c r =
       rw (ex, ey, efx, efy) (chroma-four (phase mvx 8) (phase mvy 8) _ _ (λ i j _ _. sym (corner-is pic w h x0 y0 mvx mvy c r i j p q)))

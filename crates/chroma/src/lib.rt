@@ -4,7 +4,7 @@ ghost use lib.ListN.{length};
 ghost use Rattle.grid.specs.Block.{drawn};
 ghost use Rattle.place.specs.Refusal.{plainBlockRefusal};
 ghost use Rattle.place.specs.Outcome.{after};
-ghost use Rattle.chroma.specs.Chroma.{predicted};
+ghost use Rattle.chroma.specs.Chroma.{predictedChroma};
 use place::coords;
 use place::limits;
 
@@ -22,7 +22,7 @@ pub fn mc_chroma(
     out: &mut [u8],
 ) -> u32
     ensures { λ r. ⌜ (r ≡ plainBlockRefusal 8 (length (now (reference .entry))) cw ch x0 y0 bw bh (length (now (out .entry))))
-        × (now (out .exit) ≡ after r (now (out .entry)) (drawn (now (out .entry)) bw bh (predicted (now (reference .entry)) cw ch x0 y0 mvx mvy))) ⌝ }
+        × (now (out .exit) ≡ after r (now (out .entry)) (drawn (now (out .entry)) bw bh (predictedChroma (now (reference .entry)) cw ch x0 y0 mvx mvy))) ⌝ }
 {
     let no = limits::check_plain_block(
         limits::CHROMA,

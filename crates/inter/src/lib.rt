@@ -3,9 +3,80 @@ ghost use mathlib.Core.Path.{_≡_};
 ghost use Rattle.vectors.specs.Median.{median};
 ghost use Rattle.vectors.specs.Predict.{predictAnswer};
 ghost use Rattle.vectors.specs.Partition.{partitionAnswer, partitionsOf};
+ghost use lib.ListN.{length};
+ghost use Rattle.grid.specs.Block.{drawn};
+ghost use Rattle.place.specs.Refusal.{plainBlockRefusal};
+ghost use Rattle.place.specs.Outcome.{after};
+ghost use Rattle.luma.specs.Luma.{predictedLuma};
+ghost use Rattle.luma.specs.Average.{rowRefusal, rowMean};
+ghost use Rattle.chroma.specs.Chroma.{predictedChroma};
+ghost use Rattle.edge.specs.Edge.{edgeRefusal, outsideCount, answer};
+use edge::Edges;
 use vectors::MvAnswer;
 use vectors::MvNeighbor;
 use vectors::Partitions;
+
+#[no_mangle]
+pub extern "C" fn inter_mc_luma(
+    reference: &[u8],
+    cw: usize,
+    ch: usize,
+    x0: usize,
+    y0: usize,
+    bw: usize,
+    bh: usize,
+    mvx: i32,
+    mvy: i32,
+    out: &mut [u8],
+) -> u32
+    ensures { λ r. ⌜ (r ≡ plainBlockRefusal 16 (length (now (reference .entry))) cw ch x0 y0 bw bh (length (now (out .entry))))
+        × (now (out .exit) ≡ after r (now (out .entry)) (drawn (now (out .entry)) bw bh (predictedLuma (now (reference .entry)) cw ch x0 y0 mvx mvy))) ⌝ }
+{
+    luma::mc_luma(reference, cw, ch, x0, y0, bw, bh, mvx, mvy, out)
+}
+
+#[no_mangle]
+pub extern "C" fn inter_mc_chroma(
+    reference: &[u8],
+    cw: usize,
+    ch: usize,
+    x0: usize,
+    y0: usize,
+    bw: usize,
+    bh: usize,
+    mvx: i32,
+    mvy: i32,
+    out: &mut [u8],
+) -> u32
+    ensures { λ r. ⌜ (r ≡ plainBlockRefusal 8 (length (now (reference .entry))) cw ch x0 y0 bw bh (length (now (out .entry))))
+        × (now (out .exit) ≡ after r (now (out .entry)) (drawn (now (out .entry)) bw bh (predictedChroma (now (reference .entry)) cw ch x0 y0 mvx mvy))) ⌝ }
+{
+    chroma::mc_chroma(reference, cw, ch, x0, y0, bw, bh, mvx, mvy, out)
+}
+
+#[no_mangle]
+pub extern "C" fn inter_avg_row_into(a: &[u8], b: &[u8], w: usize, out: &mut [u8]) -> u32
+    ensures { λ r. ⌜ (r ≡ rowRefusal (length (now (a .entry))) (length (now (b .entry))) w (length (now (out .entry))))
+        × (now (out .exit) ≡ after r (now (out .entry)) (drawn (now (out .entry)) w 1 (rowMean (now (a .entry)) (now (b .entry))))) ⌝ }
+{
+    luma::avg_row_into(a, b, w, out)
+}
+
+#[no_mangle]
+pub extern "C" fn inter_edge_count(
+    cw: usize,
+    ch: usize,
+    x0: usize,
+    y0: usize,
+    bw: usize,
+    bh: usize,
+    mvx: i32,
+    mvy: i32,
+) -> Edges
+    ensures { λ r. ⌜ r ≡ answer (edgeRefusal cw ch x0 y0 bw bh) (outsideCount cw ch x0 y0 bw bh mvx mvy) ⌝ }
+{
+    edge::edge_count(cw, ch, x0, y0, bw, bh, mvx, mvy)
+}
 
 #[no_mangle]
 pub extern "C" fn inter_median3(a: i32, b: i32, c: i32) -> i32

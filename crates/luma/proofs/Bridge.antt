@@ -16,13 +16,13 @@ use Rattle.place.proofs.Windows.{window-is}
 use Rattle.samples.specs.Tap.{mean}
 use Rattle.samples.proofs.Reach.{luma-six}
 use Rattle.route.specs.Area.{lumaNear}
-use Rattle.luma.specs.Luma.{predicted}
+use Rattle.luma.specs.Luma.{predictedLuma}
 use Rattle.luma.specs.Average.{rowMean}
 
 module _ (pic : List ℕ) (w h x0 y0 : ℕ) (mvx mvy : ℤ) (p : mag mvx < 2 ^ 31) (q : mag mvy < 2 ^ 31) where
   pub near-predicted : {x y fx fy : ℕ} → x ≡ x0 + up (2 ^ 31) mvx / 4 → y ≡ y0 + up (2 ^ 31) mvy / 4 → fx ≡ phase mvx 4 → fy ≡ phase mvy 4
-      → (c r : ℕ) → lumaNear pic 0 w w h x y fx fy c r ≡ predicted pic w h x0 y0 mvx mvy c r
-  unfolding lumaNear predicted
+      → (c r : ℕ) → lumaNear pic 0 w w h x y fx fy c r ≡ predictedLuma pic w h x0 y0 mvx mvy c r
+  unfolding lumaNear predictedLuma
   near-predicted ex ey efx efy c r =
       rw (ex, ey, efx, efy) (luma-six 255 _ _ (λ i j _ _. sym (window-is pic w h x0 y0 mvx mvy c r i j p q)) (phase mvx 4) (phase mvy 4))
 

@@ -7,6 +7,6 @@ use Rattle.place.specs.Place.{lumaPlace, phase}
 use Rattle.place.specs.Picture.{window}
 
 -- the sample in column c and row r of the block at (x0, y0), moved by the vector
-unfoldable pub predicted : (pic : List ℕ) (w h x0 y0 : ℕ) (mvx mvy : ℤ) (c r : ℕ) → ℕ
-predicted pic w h x0 y0 mvx mvy c r =
+unfoldable pub predictedLuma : (pic : List ℕ) (w h x0 y0 : ℕ) (mvx mvy : ℤ) (c r : ℕ) → ℕ
+predictedLuma pic w h x0 y0 mvx mvy c r =
     lumaSample 255 (phase mvx 4) (phase mvy 4) (window pic w h (lumaPlace x0 mvx c) (lumaPlace y0 mvy r))

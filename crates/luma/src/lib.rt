@@ -4,7 +4,7 @@ ghost use lib.ListN.{length};
 ghost use Rattle.grid.specs.Block.{drawn};
 ghost use Rattle.place.specs.Refusal.{plainBlockRefusal};
 ghost use Rattle.place.specs.Outcome.{after};
-ghost use Rattle.luma.specs.Luma.{predicted};
+ghost use Rattle.luma.specs.Luma.{predictedLuma};
 ghost use Rattle.luma.specs.Average.{rowRefusal, rowMean};
 use place::coords;
 use place::limits;
@@ -24,7 +24,7 @@ pub fn mc_luma(
     out: &mut [u8],
 ) -> u32
     ensures { λ r. ⌜ (r ≡ plainBlockRefusal 16 (length (now (reference .entry))) cw ch x0 y0 bw bh (length (now (out .entry))))
-        × (now (out .exit) ≡ after r (now (out .entry)) (drawn (now (out .entry)) bw bh (predicted (now (reference .entry)) cw ch x0 y0 mvx mvy))) ⌝ }
+        × (now (out .exit) ≡ after r (now (out .entry)) (drawn (now (out .entry)) bw bh (predictedLuma (now (reference .entry)) cw ch x0 y0 mvx mvy))) ⌝ }
 {
     let no = limits::check_plain_block(
         limits::LUMA,

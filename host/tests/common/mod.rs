@@ -1,5 +1,13 @@
 //! What the comparisons share: drawn numbers, the number of calls, and a line now and then.
 
+// Each comparison takes its own part of this.
+#![allow(dead_code)]
+
+pub mod block;
+pub mod limits;
+pub mod tally;
+pub mod twin;
+
 use std::io::Write;
 use std::time::{Duration, Instant};
 
@@ -29,9 +37,32 @@ impl Rng {
         low + (((self.next() >> 32) * count) >> 32) as i64
     }
 
+    /// A width and a height, from 1 up to those given.
+    pub fn sides(&mut self, w: usize, h: usize) -> (usize, usize) {
+        (self.within(1, w as i64) as usize, self.within(1, h as i64) as usize)
+    }
+
+    /// A number that a range from 1 to `most` leaves out.
+    pub fn outside(&mut self, most: usize) -> usize {
+        match self.within(0, 4) {
+            0 => 0,
+            1 => most + 1,
+            2 => most + self.within(1, 300) as usize,
+            3 => usize::MAX - self.within(0, 9) as usize,
+            // Inside again if only 32 bits are looked at.
+            _ => (1 << 32) + self.within(0, most as i64) as usize,
+        }
+    }
+
     pub fn pick<T: Copy>(&mut self, list: &[T]) -> T {
         list[self.within(0, list.len() as i64 - 1) as usize]
     }
+}
+
+/// Every pair from one list.
+pub fn pairs<T: Copy>(list: impl IntoIterator<Item = T> + Clone) -> impl Iterator<Item = (T, T)> {
+    let inner = list.clone();
+    list.into_iter().flat_map(move |a| inner.clone().into_iter().map(move |b| (a, b)))
 }
 
 /// The number of drawn calls of one comparison: INTER_CALLS where it is set, else `standing`.

@@ -1,0 +1,54 @@
+//! The table of refusals as a model: each test in words of the numbers alone.
+
+use inter::Refusal;
+
+use super::block::{Block, Kind};
+
+/// Two numbers far outside every range; the first times itself is 0 in 64 bits.
+pub const HUGE: [usize; 2] = [1 << 32, usize::MAX];
+
+/// The ends of the range of positions, and what lies past it.
+pub const POSITIONS: [usize; 4] = [0, 65535, 65536, usize::MAX];
+
+/// Lengths around what is needed: none, one short, exact, longer.
+pub fn around(needed: usize, more: usize) -> [usize; 4] {
+    [0, needed.saturating_sub(1), needed, needed + more]
+}
+
+/// The lowest number that applies. A test is a refusal and whether it applies.
+pub fn lowest(tests: &[(Refusal, bool)]) -> Result<(), Refusal> {
+    let applying = tests.iter().filter(|test| test.1).map(|test| test.0);
+    applying.min_by_key(|refusal| refusal.number()).map_or(Ok(()), Err)
+}
+
+/// Refusal 1, of the sides of a picture.
+pub fn side(cw: usize, ch: usize) -> (Refusal, bool) {
+    let off = |n| !(1..=8192).contains(&n);
+    (Refusal::Side, off(cw) || off(ch))
+}
+
+/// Refusal 2, of a source that must hold `w` by `h` bytes.
+pub fn source(len: usize, w: usize, h: usize) -> (Refusal, bool) {
+    (Refusal::Source, short(len, w, h))
+}
+
+/// Refusal 3.
+pub fn block_side(kind: &Kind, block: &Block) -> (Refusal, bool) {
+    let off = |n| !(1..=kind.most).contains(&n);
+    (Refusal::BlockSide, off(block.bw) || off(block.bh))
+}
+
+/// Refusal 4.
+pub fn position(block: &Block) -> (Refusal, bool) {
+    (Refusal::Position, block.x0 > 65535 || block.y0 > 65535)
+}
+
+/// Refusal 5, of an output that must hold `w` by `h` bytes.
+pub fn output(len: usize, w: usize, h: usize) -> (Refusal, bool) {
+    (Refusal::Output, short(len, w, h))
+}
+
+fn short(len: usize, w: usize, h: usize) -> bool {
+    // Wide enough that no two lengths multiply past it.
+    (len as u128) < w as u128 * h as u128
+}
