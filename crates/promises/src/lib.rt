@@ -1,0 +1,1 @@
+// Theorems about the calls and the definitions. There is no code here.

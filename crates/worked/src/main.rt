@@ -1,0 +1,153 @@
+// Document 01's cases as a run: each line is a case, the answer's number (0 done) and what the call gave. The file stdout has what the document says.
+use samples::taps;
+use vectors::Mv;
+use vectors::MvNeighbor;
+
+fn digit(n: u32) -> u8 {
+    (48 + n % 10) as u8
+}
+
+// A case in a line: its name, the answer's number, and the value.
+fn line(name: &[u8], answer: u32, value: u32) {
+    io::write_all(1, name);
+    let text = [
+        b' ',
+        digit(answer),
+        b' ',
+        digit(value / 100),
+        digit(value / 10),
+        digit(value),
+        b'\n',
+    ];
+    io::write_all(1, &text);
+}
+
+// One luma sample.
+fn luma(name: &[u8], pic: &[u8], w: usize, h: usize, x0: usize, y0: usize, mvx: i32, mvy: i32) {
+    let mut out = [0u8; 1];
+    let answer = luma::mc_luma(pic, w, h, x0, y0, 1, 1, mvx, mvy, &mut out);
+    line(name, answer, taps::wide(out[0]) as u32);
+}
+
+// One chroma sample of the picture 0 64 over 128 192.
+fn chroma(name: &[u8], mvx: i32, mvy: i32) {
+    let mut out = [0u8; 1];
+    let pic = [0, 64, 128, 192];
+    let answer = chroma::mc_chroma(&pic, 2, 2, 0, 0, 1, 1, mvx, mvy, &mut out);
+    line(name, answer, taps::wide(out[0]) as u32);
+}
+
+fn quarter(n: usize) -> i32 {
+    if n == 0 {
+        0
+    } else if n == 1 {
+        1
+    } else if n == 2 {
+        2
+    } else {
+        3
+    }
+}
+
+// The same sample at every phase.
+fn every_phase(v: u8) {
+    let pic = [v];
+    for k in 0..16usize {
+        luma(
+            b"1x1 picture, phase by rows",
+            &pic,
+            1,
+            1,
+            0,
+            0,
+            quarter(k % 4),
+            quarter(k / 4),
+        );
+    }
+}
+
+fn edges(name: &[u8], mvx: i32, mvy: i32) {
+    let e = edge::edge_count(16, 16, 0, 0, 16, 16, mvx, mvy);
+    line(name, e.refusal, e.count);
+}
+
+fn neighbour(available: bool, x: i32, y: i32, ref_idx: i32) -> MvNeighbor {
+    MvNeighbor {
+        available: available,
+        mv: Mv { x: x, y: y },
+        ref_idx: ref_idx,
+    }
+}
+
+// A vector whose components are known to be 0..999.
+fn vector(name: &[u8], a: MvNeighbor, b: MvNeighbor, c: MvNeighbor, cur_ref: i32) {
+    let m = vectors::predict_mv(a, b, c, cur_ref);
+    line(name, m.refusal, signed::to_bits(m.mv.x));
+    line(name, m.refusal, signed::to_bits(m.mv.y));
+}
+
+fn main() {
+    let r = [10, 20, 30, 40, 50, 60];
+    luma(b"R at 2 by (2,0)", &r, 6, 1, 2, 0, 2, 0);
+    luma(b"R at 2 by (1,0)", &r, 6, 1, 2, 0, 1, 0);
+    luma(b"R at 2 by (3,0)", &r, 6, 1, 2, 0, 3, 0);
+    luma(b"R at 2 by (-1,0), not toward zero", &r, 6, 1, 2, 0, -1, 0);
+    luma(b"R at 0 by (2,0)", &r, 6, 1, 0, 0, 2, 0);
+    luma(b"R at 5 by (2,0)", &r, 6, 1, 5, 0, 2, 0);
+    luma(
+        b"two high samples by (2,0)",
+        &[0, 0, 255, 255, 0, 0],
+        6,
+        1,
+        2,
+        0,
+        2,
+        0,
+    );
+    luma(
+        b"two low samples by (2,0)",
+        &[0, 255, 0, 0, 255, 0],
+        6,
+        1,
+        2,
+        0,
+        2,
+        0,
+    );
+    let rise = [0, 0, 0, 1, 1, 1];
+    luma(b"a rise by (2,0)", &rise, 6, 1, 2, 0, 2, 0);
+    luma(b"a rise by (1,0)", &rise, 6, 1, 2, 0, 1, 0);
+    let mut dot = [0u8; 36];
+    dot[14] = 1;
+    luma(b"a dot by (2,0)", &dot, 6, 6, 2, 2, 2, 0);
+    luma(
+        b"a dot by (2,2), first pass unrounded",
+        &dot,
+        6,
+        6,
+        2,
+        2,
+        2,
+        2,
+    );
+    luma(b"a dot by (2,1)", &dot, 6, 6, 2, 2, 2, 1);
+    every_phase(77);
+    chroma(b"chroma by (4,4)", 4, 4);
+    chroma(b"chroma by (1,0)", 1, 0);
+    edges(b"edge count by (-4,0)", -4, 0);
+    edges(b"edge count by (0,0)", 0, 0);
+    luma(b"side 0", &r, 0, 1, 0, 0, 0, 0);
+    luma(b"source one short", &r, 7, 1, 0, 0, 0, 0);
+    luma(b"position 65536", &r, 6, 1, 65536, 0, 0, 0);
+    let a = neighbour(true, 4, 8, 0);
+    let b = neighbour(true, 0, 0, 1);
+    let c = neighbour(true, 12, -4, 1);
+    vector(b"current 0", a, b, c, 0);
+    vector(b"current 1", a, b, c, 1);
+    vector(b"current 32", a, b, c, 32);
+    // An intra B is available, so nothing is taken from A.
+    let intra = neighbour(true, 0, 0, -1);
+    let absent = neighbour(false, 0, 0, -1);
+    vector(b"intra B, C absent, current 1", a, intra, absent, 1);
+    vector(b"B and C absent, current 1", a, absent, absent, 1);
+}

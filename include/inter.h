@@ -1,0 +1,182 @@
+/*
+ * H.264 inter prediction (Rec. ITU-T H.264, clauses 8.4.1.3 and 8.4.2.2): the calls of the proved
+ * archive libinter.a, for C99 and C++.
+ *
+ * Every call ends on all arguments and checks them itself. A call that refuses has written
+ * nothing, and where it answers a record the rest of that record is zeros.
+ *
+ * Bytes are lent as a pointer and then their number. An output must not overlap a source or
+ * another output. Done writes exactly the bytes that are named below, and none after them.
+ *
+ * Samples are bytes, by rows from the top. A side of a picture is 1..8192 and a position 0..65535;
+ * a block may lie outside the picture, whose nearest row or column then stands in. Every vector
+ * is served.
+ */
+#ifndef INTER_H
+#define INTER_H
+
+#include <stdbool.h>
+#include <stddef.h>
+#include <stdint.h>
+
+#ifdef __cplusplus
+extern "C" {
+#endif
+
+/* The answer of a call: done, or why it was refused, by the lowest number that applies. */
+enum inter_refusal {
+    INTER_DONE = 0,               /* done */
+    INTER_REFUSED_SIDE = 1,       /* a side, pad or stride is outside its range */
+    INTER_REFUSED_SOURCE = 2,     /* a source plane or row is shorter than needed */
+    INTER_REFUSED_BLOCK_SIDE = 3, /* a block side is outside its range */
+    INTER_REFUSED_POSITION = 4,   /* a position exceeds 65535 */
+    INTER_REFUSED_OUTPUT = 5,     /* an output is shorter than needed */
+    INTER_REFUSED_UNSERVED = 6,   /* the half-sample planes do not serve this block */
+    INTER_REFUSED_REFERENCE = 7   /* the current reference is outside 0..31 */
+};
+
+/* ---- Plain pictures: cw by ch samples, no gap between rows, cw * ch bytes ------------------ */
+
+/*
+ * Predicts the luma block of bw by bh samples, 1..16 each, at (x0, y0), moved by (mvx, mvy) in
+ * quarter samples. Writes bw * bh bytes, packed by rows. Refuses with 1 to 5.
+ */
+uint32_t inter_mc_luma(
+    const uint8_t *reference,
+    size_t reference_len,
+    size_t cw,
+    size_t ch,
+    size_t x0,
+    size_t y0,
+    size_t bw,
+    size_t bh,
+    int32_t mvx,
+    int32_t mvy,
+    uint8_t *out,
+    size_t out_len);
+
+/*
+ * Predicts the chroma block of bw by bh samples, 1..8 each, at (x0, y0) of a chroma plane, moved
+ * by (mvx, mvy) in eighths of its samples. Writes bw * bh bytes, packed by rows. Refuses with 1
+ * to 5.
+ */
+uint32_t inter_mc_chroma(
+    const uint8_t *reference,
+    size_t reference_len,
+    size_t cw,
+    size_t ch,
+    size_t x0,
+    size_t y0,
+    size_t bw,
+    size_t bh,
+    int32_t mvx,
+    int32_t mvy,
+    uint8_t *out,
+    size_t out_len);
+
+/* A count, and 0 where refused. */
+typedef struct inter_edges {
+    uint32_t refusal;
+    uint32_t count;
+} inter_edges;
+
+/*
+ * Counts the samples of a luma block, as inter_mc_luma takes it, whose place lies outside the
+ * picture. Refuses with 1, 3 and 4.
+ */
+inter_edges inter_edge_count(
+    size_t cw,
+    size_t ch,
+    size_t x0,
+    size_t y0,
+    size_t bw,
+    size_t bh,
+    int32_t mvx,
+    int32_t mvy);
+
+/* ---- Rows --------------------------------------------------------------------------------- */
+
+/*
+ * Averages the first w samples of two rows, a half rounded up. Writes w bytes; any w is served,
+ * and at 0 nothing is written. Refuses with 2 and 5.
+ */
+uint32_t inter_avg_row_into(
+    const uint8_t *a,
+    size_t a_len,
+    const uint8_t *b,
+    size_t b_len,
+    size_t w,
+    uint8_t *out,
+    size_t out_len);
+
+/* ---- Vectors and partitions ---------------------------------------------------------------- */
+
+/* A vector, in quarter samples of luma. */
+typedef struct inter_mv {
+    int32_t x;
+    int32_t y;
+} inter_mv;
+
+/* A neighbouring block; an intra block is available and has a negative reference. */
+typedef struct inter_mv_neighbor {
+    bool available;
+    inter_mv mv;
+    int32_t ref_idx;
+} inter_mv_neighbor;
+
+/* A predicted vector, and (0,0) where refused. */
+typedef struct inter_mv_answer {
+    uint32_t refusal;
+    inter_mv mv;
+} inter_mv_answer;
+
+/* A part of a macroblock, in luma samples. */
+typedef struct inter_rect {
+    size_t x;
+    size_t y;
+    size_t w;
+    size_t h;
+} inter_rect;
+
+/* The first count parts are those of the macroblock; zeros stand after them. */
+typedef struct inter_partitions {
+    size_t count;
+    inter_rect parts[4];
+} inter_partitions;
+
+/* The middle one of three values. Never refuses. */
+int32_t inter_median3(int32_t a, int32_t b, int32_t c);
+
+/*
+ * Predicts the vector of a block from the neighbours left (a), above (b) and above right (c), for
+ * the reference cur_ref, 0..31. Refuses with 7.
+ */
+inter_mv_answer inter_predict_mv(
+    inter_mv_neighbor a,
+    inter_mv_neighbor b,
+    inter_mv_neighbor c,
+    int32_t cur_ref);
+
+/*
+ * The same for part number part of a macroblock of that mode: modes 1 (16x8) and 2 (8x16) take
+ * the vector of one neighbour where it has the current reference. Refuses with 7.
+ */
+inter_mv_answer inter_predict_partition_mv(
+    uint8_t mode,
+    size_t part,
+    inter_mv_neighbor a,
+    inter_mv_neighbor b,
+    inter_mv_neighbor c,
+    int32_t cur_ref);
+
+/*
+ * Lists the parts of a macroblock: two 16x8 for mode 1, two 8x16 for mode 2, four 8x8 for mode 3,
+ * one 16x16 for all others. Never refuses.
+ */
+inter_partitions inter_inter_partitions(uint8_t mode);
+
+#ifdef __cplusplus
+}
+#endif
+
+#endif
