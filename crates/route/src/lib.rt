@@ -173,6 +173,52 @@ pub fn predict_luma(
     luma_tiled(src, p, stride, w, h, x, y, fx, fy, bw, bh, out);
 }
 
+// The same with the tile and the anchors in lent slices.
+pub fn predict_luma_with(
+    tile: &mut [u8],
+    a: &mut [u8],
+    b: &mut [u8],
+    src: &[u8],
+    p: usize,
+    stride: usize,
+    w: usize,
+    h: usize,
+    x: usize,
+    y: usize,
+    fx: usize,
+    fy: usize,
+    bw: usize,
+    bh: usize,
+    out: &mut [u8],
+)
+    requires { ⌜ (441 ≤ length (now tile)) × (256 ≤ length (now a)) × (256 ≤ length (now b)) × (0 < w) × (0 < h) × (p + (h - 1) * stride + w ≤ length (now src)) × (x < 2 ^ 31) × (y < 2 ^ 31) × (fx < 4) × (fy < 4) × (1 ≤ bh) × (bw ≤ 16) × (bh ≤ 16) × (bw * bh ≤ length (now out)) ⌝ }
+    ensures { λ _. ⌜ now (out .exit) ≡ drawn (now (out .entry)) bw bh (lumaNear (now (src .entry)) p stride w h x y fx fy) ⌝ }
+{
+    if fx + fy == 0 {
+        predict_full(src, p, stride, w, h, x, y, coords::LUMA_BASE, bw, bh, out);
+        return;
+    }
+    let s = locate(
+        src.len(),
+        p,
+        stride,
+        w,
+        h,
+        x,
+        y,
+        coords::LUMA_BASE + 2,
+        bw + 5,
+        bh + 5,
+        21,
+    );
+    if s.inside {
+        phases::luma_block(src, s.at, stride, fx, fy, bw, bh, a, b, out);
+        return;
+    }
+    tiles::luma_tile_into(tile, src, p, stride, w, h, x, y, bw, bh);
+    phases::luma_block(tile, 0, bw + 5, fx, fy, bw, bh, a, b, out);
+}
+
 // The chroma block of a phase by way of its clamped tile.
 fn chroma_tiled(
     src: &[u8],
