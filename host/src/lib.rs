@@ -4,6 +4,7 @@
 //! own arguments: what it cannot serve it answers with a [`Refusal`], and then nothing that it
 //! was lent has changed.
 
+// The calls are inlined where they are used, so that each costs what the C call costs.
 pub mod ffi;
 mod plain;
 mod refusal;

@@ -20,6 +20,7 @@ use crate::{ffi, Refusal};
 /// assert_eq!((short, out), (Err(inter::Refusal::Source), [35, 45]));
 /// # Ok::<(), inter::Refusal>(())
 /// ```
+#[inline]
 pub fn mc_luma(
     reference: &[u8],
     cw: usize,
@@ -60,6 +61,7 @@ pub fn mc_luma(
 /// assert_eq!(out, [96]);
 /// # Ok::<(), inter::Refusal>(())
 /// ```
+#[inline]
 pub fn mc_chroma(
     reference: &[u8],
     cw: usize,
@@ -99,6 +101,7 @@ pub fn mc_chroma(
 /// assert_eq!(out, [33, 38, 0]);
 /// # Ok::<(), inter::Refusal>(())
 /// ```
+#[inline]
 pub fn avg_row_into(a: &[u8], b: &[u8], w: usize, out: &mut [u8]) -> Result<(), Refusal> {
     // SAFETY: each pointer and its length are those of one borrowed slice.
     Refusal::check(unsafe {
@@ -120,6 +123,7 @@ pub fn avg_row_into(a: &[u8], b: &[u8], w: usize, out: &mut [u8]) -> Result<(), 
 /// // One column of a 16x16 block hangs over the left edge.
 /// assert_eq!(inter::edge_count(16, 16, 0, 0, 16, 16, -4, 0), Ok(16));
 /// ```
+#[inline]
 pub fn edge_count(
     cw: usize,
     ch: usize,

@@ -38,11 +38,13 @@ impl Refusal {
     ];
 
     /// The number that the C call answers.
+    #[inline]
     pub fn number(self) -> u32 {
         self as u32
     }
 
     /// The refusal of that number; none for 0, which is done.
+    #[inline]
     pub fn from_number(number: u32) -> Option<Refusal> {
         Refusal::ALL.into_iter().find(|refusal| refusal.number() == number)
     }
@@ -65,6 +67,7 @@ impl Refusal {
     }
 
     /// The answer of a C call as a result.
+    #[inline]
     pub(crate) fn check(number: u32) -> Result<(), Refusal> {
         match (number, Refusal::from_number(number)) {
             (0, _) => Ok(()),

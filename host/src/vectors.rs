@@ -24,6 +24,7 @@ impl Partitions {
 /// assert_eq!(inter::median3(7, -3, 5), 5);
 /// assert_eq!(inter::median3(i32::MAX, i32::MAX, i32::MAX - 1), i32::MAX);
 /// ```
+#[inline]
 pub fn median3(a: i32, b: i32, c: i32) -> i32 {
     ffi::inter_median3(a, b, c)
 }
@@ -42,6 +43,7 @@ pub fn median3(a: i32, b: i32, c: i32) -> i32 {
 /// assert_eq!(predict_mv(left, above, above_right, 1), Ok(Mv { x: 4, y: 0 }));
 /// assert_eq!(predict_mv(left, above, above_right, 32), Err(Refusal::Reference));
 /// ```
+#[inline]
 pub fn predict_mv(
     a: MvNeighbor,
     b: MvNeighbor,
@@ -64,6 +66,7 @@ pub fn predict_mv(
 /// assert_eq!(predict_partition_mv(1, 0, left, above, none, 0), Ok(Mv { x: 6, y: 6 }));
 /// assert_eq!(predict_partition_mv(1, 1, left, above, none, 0), Ok(Mv { x: 4, y: 8 }));
 /// ```
+#[inline]
 pub fn predict_partition_mv(
     mode: u8,
     part: usize,
@@ -82,6 +85,7 @@ pub fn predict_partition_mv(
 /// assert_eq!(halves.parts().len(), 2);
 /// assert_eq!(halves.parts()[1], inter::Rect { x: 8, y: 0, w: 8, h: 16 });
 /// ```
+#[inline]
 pub fn inter_partitions(mode: u8) -> Partitions {
     ffi::inter_inter_partitions(mode)
 }

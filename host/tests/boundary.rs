@@ -243,21 +243,32 @@ fn of_ffi(text: &str) -> Boundary {
     boundary
 }
 
-/// The exports, and the records of the crates that they lie over.
+/// The exports, and the records that they carry, from whichever crate.
 fn of_rattle(exports: &str) -> Boundary {
-    let mut boundary = Boundary::new();
+    let mut records = Boundary::new();
     for folder in fs::read_dir(CRATES).expect("crates/ is read").flatten() {
-        add_records(&mut boundary, &tokens(&rattle(&folder.path())));
+        add_records(&mut records, &tokens(&rattle(&folder.path())));
     }
+    let mut boundary = Boundary::new();
     for mut reader in Reader::each_after(&tokens(exports), "#[no_mangle] pub extern \"C\" fn") {
         reader.function(&mut boundary);
+    }
+    // What a call carries, and what lies inside of that.
+    let mut carrying: Vec<String> = boundary.values().cloned().collect();
+    while let Some(declaration) = carrying.pop() {
+        for word in tokens(&declaration) {
+            if let Some(record) = records.remove(&word) {
+                carrying.push(record.clone());
+                boundary.insert(word, record);
+            }
+        }
     }
     boundary
 }
 
-/// The texts of a Rattle crate, one after the other.
+/// The texts of a Rattle crate, one after the other; a crate of theorems has none.
 fn rattle(folder: &Path) -> String {
-    let files = fs::read_dir(folder.join("src")).expect("a crate has a folder src");
+    let files = fs::read_dir(folder.join("src")).into_iter().flatten();
     let texts = files.flatten().map(|file| fs::read_to_string(file.path()).expect("a text"));
     texts.collect()
 }

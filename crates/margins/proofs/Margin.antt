@@ -1,22 +1,22 @@
--- Laws of `specs/Margin.antt`: a row with its two margins, the three parts of the buffer, and reading it. Assumes nothing.
-use mathlib.Core.Path.{_≡_, refl, sym, ap, ap₂, _∙_, subst}
-use mathlib.Core.Bool.{Bool, true, false, cond}
+-- Laws of `specs/Margin.antt`: a row with its two margins, and the three parts of the buffer. Assumes nothing.
+use mathlib.Core.Path.{_≡_, sym, ap, ap₂, _∙_}
+use mathlib.Core.Bool.{Bool, cond}
 use mathlib.Core.List.{List}
-use mathlib.Core.Logic.{_⊎_, inl, inr, ⊎-elim}
-use Prim.Native.Nat.{ℕ, zero, suc, _+_, _*_, _-_, _/_, _%_, _≤_, _<_, min}
-use native.Mathlib.Nat.{mul-le-mul-right, div-add-mod'}
+use mathlib.Core.Logic.{⊎-elim}
+use Prim.Native.Nat.{ℕ, _+_, _*_, _-_, _/_, _%_, _≤_, _<_, min}
+use native.Mathlib.Nat.{zero-add, mul-le-mul-right, div-add-mod'}
 use native.Mathlib.Omega.{arith}
-use lib.Dec.{ltb}
 use lib.ListN.{length, getD}
+use borrow.Author.Needs.{scaled-fits}
 use borrow.Author.Tests.{lt-ltb, le-ltb}
+use mir.Syntax.{w64}
+use mir.Val.{Fits}
 use Rattle.signed.proofs.Diff.{lt-or-le}
-use Rattle.grid.specs.Block.{byRows, drawn}
+use Rattle.grid.specs.Block.{sample, byRows}
 use Rattle.grid.specs.Run.{put}
-use Rattle.grid.specs.Block.{sample}
 use Rattle.grid.proofs.Fill.{put-at, put-length, drawn-put, in-block}
-use Rattle.grid.proofs.Fill.{drawn-sample}
 use Rattle.place.proofs.Refused.{PaddedOk}
-use Rattle.margins.specs.Margin.{fromCol, fromRow, expanded, after}
+use Rattle.margins.specs.Margin.{fromCol, fromRow, expanded}
 use Rattle.margins.proofs.Put.{put-before, put-after, put-is, rows-at-at}
 
 pub col-in : (pad w x : ℕ) → x < w + 2 * pad → fromCol pad w x ≡ pad + min (x - pad) (w - 1)
@@ -28,50 +28,51 @@ unfolding fromCol
 col-gap pad w x h = ap (λ (t : Bool). cond t (pad + min (x - pad) (w - 1)) x) (le-ltb x (w + 2 * pad) h)
 
 -- a picture row that starts at o, with a filled in before it and b after it
-module _ (d : List ℕ) (o stride pad w a b : ℕ) (w1 : 1 ≤ w) (wide : w + 2 * pad ≤ stride) (room : o + stride ≤ length d)
+module _ (d d1 d2 : List ℕ) (o stride pad w a b : ℕ) (w1 : 1 ≤ w) (wide : w + 2 * pad ≤ stride) (room : o + stride ≤ length d)
+    (e1 : d1 ≡ put d o pad (λ i. a)) (e2 : d2 ≡ put d1 (o + pad + w) pad (λ i. b))
     (ea : a ≡ getD d (o + pad) 0) (eb : b ≡ getD d (o + pad + w - 1) 0) where
-  abbrev left : List ℕ
-  left = put d o pad (λ i. a)
+  len1 : length d1 ≡ length d
+  len1 = ap length e1 ∙ put-length d o pad _ (omega arith)
 
-  left-length : length left ≡ length d
-  left-length = put-length d o pad (λ i. a) (omega arith)
+  fits : o + pad + w + pad ≤ length d1
+  fits = omega (arith, len1)
 
-  inner : (x : ℕ) → pad ≤ x → getD left (o + x) 0 ≡ getD d (o + x) 0
-  inner x h = put-after d o pad (λ i. a) (omega arith) (o + x) (omega arith)
+  inner : (i : ℕ) → o + pad ≤ i → getD d1 i 0 ≡ getD d i 0
+  inner i h = ap (λ (l : List ℕ). getD l i 0) e1 ∙ put-after d o pad _ (omega arith) i h
 
-  at : (x : ℕ) → x < stride → getD (put left (o + pad + w) pad (λ i. b)) (o + x) 0 ≡ getD d (o + fromCol pad w x) 0
+  until : (i : ℕ) → i < o + pad + w → getD d2 i 0 ≡ getD d1 i 0
+  until i h = ap (λ (l : List ℕ). getD l i 0) e2 ∙ put-before d1 (o + pad + w) pad _ fits i h
+
+  past : (i : ℕ) → o + pad + w + pad ≤ i → getD d2 i 0 ≡ getD d i 0
+  past i h = ap (λ (l : List ℕ). getD l i 0) e2 ∙ put-after d1 (o + pad + w) pad _ fits i h ∙ inner i (omega arith)
+
+  at : (x : ℕ) → x < stride → getD d2 (o + x) 0 ≡ getD d (o + fromCol pad w x) 0
   at x _ =
-      let fits : o + pad + w + pad ≤ length left = omega (arith, left-length) in
       ⊎-elim
       (λ (h : x < pad).
-      let e : pad ≡ fromCol pad w x = omega (arith, col-in pad w x (omega arith)) in
-      put-before left (o + pad + w) pad (λ i. b) fits (o + x) (omega arith)
-      ∙ put-at d o pad (λ i. a) x (omega arith) h ∙ ea ∙ ap (λ (k : ℕ). getD d (o + k) 0) e)
+      let e : o + pad ≡ o + fromCol pad w x = omega (arith, col-in pad w x (omega arith)) in
+      until (o + x) (omega arith) ∙ ap (λ (l : List ℕ). getD l (o + x) 0) e1 ∙ put-at d o pad _ x (omega arith) h ∙ ea ∙ ap (λ (k : ℕ). getD d k 0) e)
       (λ (h : pad ≤ x). ⊎-elim
       (λ (k : x < pad + w).
-      let e : x ≡ fromCol pad w x = omega (arith, col-in pad w x (omega arith)) in
-      put-before left (o + pad + w) pad (λ i. b) fits (o + x) (omega arith) ∙ inner x h ∙ ap (λ (j : ℕ). getD d (o + j) 0) e)
+      let e : o + x ≡ o + fromCol pad w x = omega (arith, col-in pad w x (omega arith)) in
+      until (o + x) (omega arith) ∙ inner (o + x) (omega arith) ∙ ap (λ (j : ℕ). getD d j 0) e)
       (λ (k : pad + w ≤ x). ⊎-elim
       (λ (l : x < w + 2 * pad).
       let p : o + x ≡ o + pad + w + (x - (pad + w)) = omega arith in
       let e : o + pad + w - 1 ≡ o + fromCol pad w x = omega (arith, col-in pad w x l) in
-      ap (λ (j : ℕ). getD (put left (o + pad + w) pad (λ i. b)) j 0) p
-      ∙ put-at left (o + pad + w) pad (λ i. b) (x - (pad + w)) (omega arith) (omega arith) ∙ eb ∙ ap (λ (j : ℕ). getD d j 0) e)
-      (λ (l : w + 2 * pad ≤ x).
-      put-after left (o + pad + w) pad (λ i. b) fits (o + x) (omega arith) ∙ inner x h ∙ ap (λ (j : ℕ). getD d (o + j) 0) (sym (col-gap pad w x l)))
+      ap₂ (λ (l : List ℕ) (j : ℕ). getD l j 0) e2 p
+      ∙ put-at d1 (o + pad + w) pad _ (x - (pad + w)) (omega (arith, fits)) (omega arith) ∙ eb ∙ ap (λ (j : ℕ). getD d j 0) e)
+      (λ (l : w + 2 * pad ≤ x). past (o + x) (omega arith) ∙ ap (λ (j : ℕ). getD d (o + j) 0) (sym (col-gap pad w x l)))
       (lt-or-le x (w + 2 * pad)))
       (lt-or-le x (pad + w)))
       (lt-or-le x pad)
 
-  pub margin-row : {d1 d2 : List ℕ} → d1 ≡ put d o pad (λ i. a) → d2 ≡ put d1 (o + pad + w) pad (λ i. b) → d2 ≡ put d o stride (λ x. getD d (o + fromCol pad w x) 0)
-  margin-row {d1} {d2} e1 e2 =
-      let fits : o + pad + w + pad ≤ length left = omega (arith, left-length) in
-      e2 ∙ ap (λ (l : List ℕ). put l (o + pad + w) pad (λ i. b)) e1
-      ∙ put-is d o stride (λ x. getD d (o + fromCol pad w x) 0) room (put left (o + pad + w) pad (λ i. b))
-      (put-length left (o + pad + w) pad (λ i. b) fits ∙ left-length)
-      (λ i h. put-before left (o + pad + w) pad (λ i. b) fits i (omega arith) ∙ put-before d o pad (λ i. a) (omega arith) i h)
+  pub margin-row : d2 ≡ put d o stride (λ x. getD d (o + fromCol pad w x) 0)
+  margin-row =
+      put-is d o stride _ room d2 (ap length e2 ∙ put-length d1 (o + pad + w) pad _ fits ∙ len1)
+      (λ i h. until i (omega arith) ∙ ap (λ (l : List ℕ). getD l i 0) e1 ∙ put-before d o pad _ (omega arith) i h)
       at
-      (λ i h. put-after left (o + pad + w) pad (λ i. b) fits i (omega arith) ∙ put-after d o pad (λ i. a) (omega arith) i (omega arith))
+      (λ i h. past i (omega arith))
 
 -- the three parts: the picture's rows with their margins, the rows above, the rows below
 module _ (d d1 d2 d3 : List ℕ) (s pad w h : ℕ) (h1 : 1 ≤ h) (room : s * (h + 2 * pad) ≤ length d)
@@ -110,14 +111,11 @@ module _ (d d1 d2 d3 : List ℕ) (s pad w h : ℕ) (h1 : 1 ≤ h) (room : s * (h
       ∙ rows-at-at d (pad * s) s h _ x k (omega (arith, r1)) a b
       ∙ ap (λ (i : ℕ). getD d i 0) e
 
-  F : ℕ → ℕ → ℕ
-  F x y = sample d s (fromCol pad w x) (fromRow pad h y)
-
-  at-row : (x y k : ℕ) → pad + k ≡ fromRow pad h y → getD d ((pad + k) * s + fromCol pad w x) 0 ≡ F x y
-  unfolding F sample
+  at-row : (x y k : ℕ) → pad + k ≡ fromRow pad h y → getD d ((pad + k) * s + fromCol pad w x) 0 ≡ sample d s (fromCol pad w x) (fromRow pad h y)
+  unfolding sample
   at-row x y k e = ap (λ (r : ℕ). getD d (r * s + fromCol pad w x) 0) e
 
-  all : (x y : ℕ) → x < s → y < h + 2 * pad → getD d3 (y * s + x) 0 ≡ F x y
+  all : (x y : ℕ) → x < s → y < h + 2 * pad → getD d3 (y * s + x) 0 ≡ sample d s (fromCol pad w x) (fromRow pad h y)
   all x y a b =
       ⊎-elim
       (λ (c : y < pad).
@@ -125,7 +123,7 @@ module _ (d d1 d2 d3 : List ℕ) (s pad w h : ℕ) (h1 : 1 ≤ h) (room : s * (h
       let q : y * s + s ≤ pad * s = omega (arith, mul-le-mul-right s c) in
       before3 (y * s + x) (omega arith)
       ∙ ap (λ (l : List ℕ). getD l (y * s + x) 0) e2
-      ∙ ap (λ (i : ℕ). getD (put d1 0 (pad * s) (byRows s (λ x y. getD d1 (pad * s + x) 0))) i 0) (sym (native.Mathlib.Nat.zero-add (y * s + x)))
+      ∙ ap (λ (i : ℕ). getD (put d1 0 (pad * s) (byRows s (λ x y. getD d1 (pad * s + x) 0))) i 0) (sym (zero-add (y * s + x)))
       ∙ rows-at-at d1 0 s pad _ x y (omega arith) a c
       ∙ ap (λ (i : ℕ). getD d1 i 0) p ∙ middle x 0 a h1 ∙ at-row x y 0 (omega arith))
       (λ (c : pad ≤ y). ⊎-elim
@@ -148,9 +146,9 @@ module _ (d d1 d2 d3 : List ℕ) (s pad w h : ℕ) (h1 : 1 ≤ h) (room : s * (h
       (lt-or-le y pad)
 
   pub expanded-is : d3 ≡ expanded d s pad w h
-  unfolding expanded F byRows
+  unfolding expanded byRows
   expanded-is =
-      put-is d 0 (s * (h + 2 * pad)) (byRows s F) (omega arith) d3 l3
+      put-is d 0 (s * (h + 2 * pad)) _ (omega arith) d3 l3
       (λ i b. absurd (omega arith))
       (λ i b.
       let p = in-block s (h + 2 * pad) i b in
@@ -160,25 +158,15 @@ module _ (d d1 d2 d3 : List ℕ) (s pad w h : ℕ) (h1 : 1 ≤ h) (room : s * (h
       ap (λ (l : List ℕ). getD l i 0) e3 ∙ put-after d2 ((pad + h) * s) (pad * s) _ r3 i (omega arith)
       ∙ after2 i (omega arith)
       ∙ ap (λ (l : List ℕ). getD l i 0) e1 ∙ put-after d (pad * s) (h * s) _ r1 i (omega arith))
-      ∙ sym (drawn-put d s (h + 2 * pad) F)
+      ∙ sym (drawn-put d s (h + 2 * pad) _)
 
--- where the three parts lie
-pub record Lie (len s pad h : ℕ) : Type 0 where
-  pub all : pad * s + h * s + pad * s ≤ len
-  pub last : (pad + h - 1) * s + s ≡ pad * s + h * s
-  pub sum : (pad + h) * s ≡ pad * s + h * s
-  pub one : s ≤ h * s
+-- once nothing was refused: the place of a row fits a word, and a picture's row lies in the buffer and ends before the next
+module _ {len w h pad s : ℕ} (ok : PaddedOk len w h pad s) where
+  pub row-fits : {r : ℕ} → r ≤ pad + h → Fits w64 (r * s)
+  row-fits {r} b = scaled-fits r 8321 s (omega arith) (omega arith)
 
-pub lie : {len w h pad s : ℕ} → PaddedOk len w h pad s → Lie len s pad h
-lie {len} {w} {h} {pad} {s} ok =
-    let e : pad + h - 1 + 1 ≡ pad + h = omega (arith, ok .h1) in
-    record {
-      all = omega (arith, ok .src);
-      last = omega (arith, ap (λ (k : ℕ). k * s) e);
-      sum = omega arith;
-      one = omega (arith, mul-le-mul-right s (ok .h1));
-    }
+  pub row-room : {r m : ℕ} → r < pad + h → m ≡ len → r * s + s ≤ m
+  row-room b e = omega (arith, mul-le-mul-right s b)
 
-pub kept : (n : ℕ) (old new : List ℕ) → (n ≡ 0 → ⊥) → old ≡ after n old new
-kept zero old new h = absurd (h refl)
-kept (suc n) old new h = refl
+  pub row-next : {r t : ℕ} → r < t → r * s + s ≤ t * s
+  row-next b = omega (arith, mul-le-mul-right s b)

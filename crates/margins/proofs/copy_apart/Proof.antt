@@ -1,6 +1,6 @@
 -- `margins::copy_apart` meets its contract. The loop's invariant: the first i bytes are written, from what was there at the start. Assumes nothing.
-use mathlib.Core.Path.{_≡_, refl}
-use Prim.Native.Nat.{ℕ, _+_, _-_}
+use mathlib.Core.Path.{refl}
+use Prim.Native.Nat.{_+_, _-_}
 use native.Mathlib.Omega.{arith}
 use lib.ListN.{getD}
 use Rattle.grid.proofs.Loop.{Filled, filled-none, filled-more, filled-done}
@@ -13,11 +13,6 @@ Inv-loop buf₀ from to n i₀ buf i = Filled buf₀ to n (λ i. getD buf₀ (fr
 
 abbrev μ-loop : tie.MeasureT-loop
 μ-loop buf₀ from to n i₀ buf i = n - i
-
-loop-again : tie.Need-loop-again Inv-loop μ-loop
-loop-again c =
-    let l = c .before .before in
-    filled-more (l .loop .inv) (omega arith) refl (filled-rest (l .loop .inv) _ (each-apart _ _ _ _ (l .before .pre .2) _ (omega arith)))
 
 pub copy-apart-spec : {M : Type 1} → statement M
 copy-apart-spec =
@@ -32,6 +27,8 @@ copy-apart-spec =
     (λ c. omega arith)
     (λ c. omega arith)
     (λ c. omega arith)
-    loop-again
+    (λ c.
+    let l = c .before .before in
+    filled-more (l .loop .inv) (omega arith) refl (filled-rest (l .loop .inv) _ (each-apart _ _ _ _ (l .before .pre .2) _ (omega arith))))
     (λ c. omega arith)
     (λ c. filled-done (c .before .loop .inv) (omega arith)))
