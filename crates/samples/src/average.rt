@@ -1,11 +1,10 @@
 // The rounded average of two rows or two packed blocks, once for every width.
 ghost use mathlib.Core.Path.{_≡_};
-ghost use Prim.Native.Nat.{_+_, _*_, _≤_};
+ghost use Prim.Native.Nat.{_+_, _*_, _≤_, _<_};
 ghost use lib.ListN.{length, getD};
 ghost use Rattle.grid.specs.Block.{sample, drawn};
 ghost use Rattle.grid.specs.Run.{put};
 ghost use Rattle.samples.specs.Tap.{mean};
-use crate::lanes;
 use crate::taps;
 
 pub fn avg2(x: u8, y: u8) -> u8
@@ -23,27 +22,48 @@ fn mean_lanes(a: &[u8], p: usize, b: &[u8], q: usize, n: usize, z: &mut [u8])
     }
 }
 
-// At most sixteen averages, by way of a local row, so that the rows may lie anywhere.
+// At most sixty-four averages, by way of a local row, so that the rows may lie anywhere.
 fn avg_lanes(a: &[u8], p: usize, b: &[u8], q: usize, n: usize, dst: &mut [u8], o: usize)
-    requires { ⌜ (n ≤ 16) × (p + n ≤ length (now a)) × (q + n ≤ length (now b)) × (o + n ≤ length (now dst)) ⌝ }
+    requires { ⌜ (n ≤ 64) × (p + n ≤ length (now a)) × (q + n ≤ length (now b)) × (o + n ≤ length (now dst)) ⌝ }
     ensures { λ _. ⌜ now (dst .exit) ≡ put (now (dst .entry)) o n (λ i. mean (getD (now (a .entry)) (p + i) 0) (getD (now (b .entry)) (q + i) 0)) ⌝ }
 {
-    let mut z = [0u8; 16];
+    let mut z = [0u8; 64];
     mean_lanes(a, p, b, q, n, &mut z);
-    lanes::store(&z, n, dst, o);
+    grid::copy_run(&z, 0, n, dst, o);
 }
 
-// n averages of the bytes from a[p] and b[q] on, written from dst[o] on: sixteen at a time, then the rest.
+// Averages, k at a time, while n holds k more: as many as it says.
+fn avg_by(
+    k: usize,
+    a: &[u8],
+    p: usize,
+    b: &[u8],
+    q: usize,
+    n: usize,
+    dst: &mut [u8],
+    o: usize,
+) -> usize
+    requires { ⌜ (1 ≤ k) × (k ≤ 64) × (p + n ≤ length (now a)) × (q + n ≤ length (now b)) × (o + n ≤ length (now dst)) ⌝ }
+    ensures { λ r. ⌜ (r ≤ n) × (n < r + k) × (now (dst .exit) ≡ put (now (dst .entry)) o r (λ i. mean (getD (now (a .entry)) (p + i) 0) (getD (now (b .entry)) (q + i) 0))) ⌝ }
+{
+    let mut i = 0;
+    while i + k <= n {
+        avg_lanes(a, p + i, b, q + i, k, dst, o + i);
+        i += k;
+    }
+    i
+}
+
+// n averages of the bytes from a[p] and b[q] on, written from dst[o] on.
 pub fn avg_run(a: &[u8], p: usize, b: &[u8], q: usize, n: usize, dst: &mut [u8], o: usize)
     requires { ⌜ (p + n ≤ length (now a)) × (q + n ≤ length (now b)) × (o + n ≤ length (now dst)) ⌝ }
     ensures { λ _. ⌜ now (dst .exit) ≡ put (now (dst .entry)) o n (λ i. mean (getD (now (a .entry)) (p + i) 0) (getD (now (b .entry)) (q + i) 0)) ⌝ }
 {
-    let mut i = 0;
-    while i + 16 <= n {
-        avg_lanes(a, p + i, b, q + i, 16, dst, o + i);
-        i += 16;
+    let i = avg_by(64, a, p, b, q, n, dst, o);
+    let j = i + avg_by(16, a, p + i, b, q + i, n - i, dst, o + i);
+    if j < n {
+        avg_lanes(a, p + j, b, q + j, n - j, dst, o + j);
     }
-    avg_lanes(a, p + i, b, q + i, n - i, dst, o + i);
 }
 
 // The average of two packed blocks is one long run.

@@ -41,5 +41,9 @@ pub fn luma_full(t: &[u8], p: usize, ts: usize, bw: usize, bh: usize, dst: &mut 
         full_rows(t, p, ts, 4, bh, dst);
         return;
     }
+    if bw == 2 {
+        full_rows(t, p, ts, 2, bh, dst);
+        return;
+    }
     full_rows(t, p, ts, bw, bh, dst);
 }
