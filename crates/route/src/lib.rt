@@ -25,7 +25,7 @@ const NOWHERE: Spot = Spot {
     at: 0,
 };
 
-fn locate(
+pub fn locate(
     len: usize,
     p: usize,
     stride: usize,

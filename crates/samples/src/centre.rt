@@ -37,7 +37,7 @@ fn mid_lanes(w: &[u16; 21], z: &mut [u8])
 }
 
 // One row of centre samples, of which the first has its window at p.
-fn centre_row(t: &[u8], p: usize, ts: usize, n: usize, dst: &mut [u8], o: usize)
+pub fn centre_row(t: &[u8], p: usize, ts: usize, n: usize, dst: &mut [u8], o: usize)
     requires { ⌜ (p + 21 + 5 * ts ≤ length (now t)) × (n ≤ 16) × (o + n ≤ length (now dst)) ⌝ }
     ensures { λ _. ⌜ now (dst .exit) ≡ put (now (dst .entry)) o n (λ i. centre 255 (windowAt (now (t .entry)) p ts i 0)) ⌝ }
 {

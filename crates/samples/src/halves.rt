@@ -19,7 +19,7 @@ fn half_lanes(t: &[u8], p: usize, s: usize, z: &mut [u8])
     }
 }
 
-fn half_row(t: &[u8], p: usize, s: usize, n: usize, dst: &mut [u8], o: usize)
+pub fn half_row(t: &[u8], p: usize, s: usize, n: usize, dst: &mut [u8], o: usize)
     requires { ⌜ (p + 16 + 5 * s ≤ length (now t)) × (n ≤ 16) × (o + n ≤ length (now dst)) ⌝ }
     ensures { λ _. ⌜ now (dst .exit) ≡ put (now (dst .entry)) o n (λ i. half 255 (from (now (t .entry)) (p + i) s)) ⌝ }
 {
