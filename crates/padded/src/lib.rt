@@ -1,0 +1,381 @@
+// Prediction from planes with margins: read in place where the block's window lies inside picture plus margin, else from the interior, clamped.
+ghost use mathlib.Core.Path.{_≡_};
+ghost use Prim.Native.Nat.{_+_, _*_, _^_, _≤_, _<_, min};
+ghost use lib.IntN.{subℕ};
+ghost use lib.ListN.{length};
+ghost use Rattle.grid.specs.Block.{drawn};
+ghost use Rattle.place.specs.Refusal.{paddedBlockRefusal};
+ghost use Rattle.place.specs.Outcome.{after};
+ghost use Rattle.padded.specs.Padded.{inReach, paddedLuma, paddedChroma, slicesRefusal};
+use margins::Geometry;
+use place::coords;
+use place::limits;
+
+// What the scratch needs: a tile of 21 by 21 samples, and the anchors of a block of 16 by 16.
+pub const TILE: usize = 441;
+
+pub const ANCHOR: usize = 256;
+
+// On one axis, of a place that is kept `base` up: b samples, with those before and behind, lie inside n samples and their margins.
+fn in_reach(
+    at: usize,
+    base: usize,
+    before: usize,
+    behind: usize,
+    b: usize,
+    n: usize,
+    pad: usize,
+) -> bool
+    requires { ⌜ (at < 2 ^ 31) × (base < 2 ^ 30) × (before ≤ 2) × (behind ≤ 3) × (b ≤ 16) × (n ≤ 8192) × (pad ≤ 128) ⌝ }
+    ensures { λ r. ⌜ r ≡ inReach before behind (subℕ at base) b n pad ⌝ }
+{
+    (base + before <= at + pad) & (at + b + behind <= n + pad + base)
+}
+
+// A luma block of which nothing is refused.
+fn luma_block(
+    padded: &[u8],
+    g: Geometry,
+    x0: usize,
+    y0: usize,
+    bw: usize,
+    bh: usize,
+    mvx: i32,
+    mvy: i32,
+    out: &mut [u8],
+)
+    requires { ⌜ (1 ≤ g .pw) × (g .pw ≤ 8192) × (1 ≤ g .ph) × (g .ph ≤ 8192) × (g .pad ≤ 128) × (g .pw + 2 * g .pad ≤ g .stride) × (g .stride ≤ 16384) × (g .stride * (g .ph + 2 * g .pad) ≤ length (now padded)) × (x0 ≤ 65535) × (y0 ≤ 65535) × (1 ≤ bw) × (bw ≤ 16) × (1 ≤ bh) × (bh ≤ 16) × (bw * bh ≤ length (now out)) ⌝ }
+    ensures { λ _. ⌜ now (out .exit) ≡ drawn (now (out .entry)) bw bh (paddedLuma (now (padded .entry)) (g .stride) (g .pad) (g .pw) (g .ph) x0 y0 bw bh mvx mvy) ⌝ }
+{
+    let stride = g.stride;
+    let pad = g.pad;
+    let w = g.pw;
+    let h = g.ph;
+    let x = coords::luma_at(x0, mvx);
+    let y = coords::luma_at(y0, mvy);
+    let fx = coords::luma_phase(mvx);
+    let fy = coords::luma_phase(mvy);
+    let across = in_reach(x, coords::LUMA_BASE, 2, 3, bw, w, pad);
+    let down = in_reach(y, coords::LUMA_BASE, 2, 3, bh, h, pad);
+    if across & down {
+        route::predict_luma(
+            padded,
+            0,
+            stride,
+            w + 2 * pad,
+            h + 2 * pad,
+            x + pad,
+            y + pad,
+            fx,
+            fy,
+            bw,
+            bh,
+            out,
+        );
+        return;
+    }
+    route::predict_luma(
+        padded,
+        pad * stride + pad,
+        stride,
+        w,
+        h,
+        x,
+        y,
+        fx,
+        fy,
+        bw,
+        bh,
+        out,
+    );
+}
+
+// The same with lent scratch.
+fn luma_block_with(
+    tile: &mut [u8],
+    a: &mut [u8],
+    b: &mut [u8],
+    padded: &[u8],
+    g: Geometry,
+    x0: usize,
+    y0: usize,
+    bw: usize,
+    bh: usize,
+    mvx: i32,
+    mvy: i32,
+    out: &mut [u8],
+)
+    requires { ⌜ (1 ≤ g .pw) × (g .pw ≤ 8192) × (1 ≤ g .ph) × (g .ph ≤ 8192) × (g .pad ≤ 128) × (g .pw + 2 * g .pad ≤ g .stride) × (g .stride ≤ 16384) × (g .stride * (g .ph + 2 * g .pad) ≤ length (now padded)) × (x0 ≤ 65535) × (y0 ≤ 65535) × (1 ≤ bw) × (bw ≤ 16) × (1 ≤ bh) × (bh ≤ 16) × (bw * bh ≤ length (now out)) × (441 ≤ length (now tile)) × (256 ≤ length (now a)) × (256 ≤ length (now b)) ⌝ }
+    ensures { λ _. ⌜ now (out .exit) ≡ drawn (now (out .entry)) bw bh (paddedLuma (now (padded .entry)) (g .stride) (g .pad) (g .pw) (g .ph) x0 y0 bw bh mvx mvy) ⌝ }
+{
+    let stride = g.stride;
+    let pad = g.pad;
+    let w = g.pw;
+    let h = g.ph;
+    let x = coords::luma_at(x0, mvx);
+    let y = coords::luma_at(y0, mvy);
+    let fx = coords::luma_phase(mvx);
+    let fy = coords::luma_phase(mvy);
+    let across = in_reach(x, coords::LUMA_BASE, 2, 3, bw, w, pad);
+    let down = in_reach(y, coords::LUMA_BASE, 2, 3, bh, h, pad);
+    if across & down {
+        route::predict_luma_with(
+            tile,
+            a,
+            b,
+            padded,
+            0,
+            stride,
+            w + 2 * pad,
+            h + 2 * pad,
+            x + pad,
+            y + pad,
+            fx,
+            fy,
+            bw,
+            bh,
+            out,
+        );
+        return;
+    }
+    route::predict_luma_with(
+        tile,
+        a,
+        b,
+        padded,
+        pad * stride + pad,
+        stride,
+        w,
+        h,
+        x,
+        y,
+        fx,
+        fy,
+        bw,
+        bh,
+        out,
+    );
+}
+
+// A chroma block of which nothing is refused.
+fn chroma_block(
+    padded: &[u8],
+    g: Geometry,
+    x0: usize,
+    y0: usize,
+    bw: usize,
+    bh: usize,
+    mvx: i32,
+    mvy: i32,
+    out: &mut [u8],
+)
+    requires { ⌜ (1 ≤ g .pw) × (g .pw ≤ 8192) × (1 ≤ g .ph) × (g .ph ≤ 8192) × (g .pad ≤ 128) × (g .pw + 2 * g .pad ≤ g .stride) × (g .stride ≤ 16384) × (g .stride * (g .ph + 2 * g .pad) ≤ length (now padded)) × (x0 ≤ 65535) × (y0 ≤ 65535) × (1 ≤ bw) × (bw ≤ 8) × (1 ≤ bh) × (bh ≤ 8) × (bw * bh ≤ length (now out)) ⌝ }
+    ensures { λ _. ⌜ now (out .exit) ≡ drawn (now (out .entry)) bw bh (paddedChroma (now (padded .entry)) (g .stride) (g .pad) (g .pw) (g .ph) x0 y0 bw bh mvx mvy) ⌝ }
+{
+    let stride = g.stride;
+    let pad = g.pad;
+    let w = g.pw;
+    let h = g.ph;
+    let x = coords::chroma_at(x0, mvx);
+    let y = coords::chroma_at(y0, mvy);
+    let fx = coords::chroma_phase(mvx);
+    let fy = coords::chroma_phase(mvy);
+    let across = in_reach(x, coords::CHROMA_BASE, 0, 1, bw, w, pad);
+    let down = in_reach(y, coords::CHROMA_BASE, 0, 1, bh, h, pad);
+    if across & down {
+        route::predict_chroma(
+            padded,
+            0,
+            stride,
+            w + 2 * pad,
+            h + 2 * pad,
+            x + pad,
+            y + pad,
+            fx,
+            fy,
+            bw,
+            bh,
+            out,
+        );
+        return;
+    }
+    route::predict_chroma(
+        padded,
+        pad * stride + pad,
+        stride,
+        w,
+        h,
+        x,
+        y,
+        fx,
+        fy,
+        bw,
+        bh,
+        out,
+    );
+}
+
+// The luma block at (x0, y0), moved by the vector in quarter samples, into out by rows.
+pub fn mc_luma_padded(
+    padded: &[u8],
+    g: Geometry,
+    x0: usize,
+    y0: usize,
+    bw: usize,
+    bh: usize,
+    mvx: i32,
+    mvy: i32,
+    out: &mut [u8],
+) -> u32
+    ensures { λ r. ⌜ (r ≡ paddedBlockRefusal 16 (length (now (padded .entry))) (g .pw) (g .ph) (g .pad) (g .stride) x0 y0 bw bh (length (now (out .entry))))
+        × (now (out .exit) ≡ after r (now (out .entry)) (drawn (now (out .entry)) bw bh (paddedLuma (now (padded .entry)) (g .stride) (g .pad) (g .pw) (g .ph) x0 y0 bw bh mvx mvy))) ⌝ }
+{
+    let no = limits::check_padded_block(
+        limits::LUMA,
+        padded.len(),
+        g.pw,
+        g.ph,
+        g.pad,
+        g.stride,
+        x0,
+        y0,
+        bw,
+        bh,
+        out.len(),
+    );
+    if no != limits::DONE {
+        return no;
+    }
+    luma_block(padded, g, x0, y0, bw, bh, mvx, mvy, out);
+    limits::DONE
+}
+
+// The same with lent scratch: short scratch is refused as a short output is; it is as it was after a refusal, and free after a done call.
+pub fn mc_luma_padded_slices(
+    tile: &mut [u8],
+    a: &mut [u8],
+    b: &mut [u8],
+    padded: &[u8],
+    g: Geometry,
+    x0: usize,
+    y0: usize,
+    bw: usize,
+    bh: usize,
+    mvx: i32,
+    mvy: i32,
+    out: &mut [u8],
+) -> u32
+    ensures { λ r. ⌜ (r ≡ slicesRefusal (length (now (tile .entry))) (length (now (a .entry))) (length (now (b .entry))) (length (now (padded .entry))) (g .pw) (g .ph) (g .pad) (g .stride) x0 y0 bw bh (length (now (out .entry))))
+        × (now (out .exit) ≡ after r (now (out .entry)) (drawn (now (out .entry)) bw bh (paddedLuma (now (padded .entry)) (g .stride) (g .pad) (g .pw) (g .ph) x0 y0 bw bh mvx mvy)))
+        × (now (tile .exit) ≡ after r (now (tile .entry)) (now (tile .exit))) × (now (a .exit) ≡ after r (now (a .entry)) (now (a .exit))) × (now (b .exit) ≡ after r (now (b .entry)) (now (b .exit))) ⌝ }
+{
+    let no = limits::check_padded_block(
+        limits::LUMA,
+        padded.len(),
+        g.pw,
+        g.ph,
+        g.pad,
+        g.stride,
+        x0,
+        y0,
+        bw,
+        bh,
+        out.len(),
+    );
+    if no != limits::DONE {
+        return no;
+    }
+    if tile.len() < TILE {
+        return limits::SHORT_OUTPUT;
+    }
+    if a.len() < ANCHOR {
+        return limits::SHORT_OUTPUT;
+    }
+    if b.len() < ANCHOR {
+        return limits::SHORT_OUTPUT;
+    }
+    luma_block_with(tile, a, b, padded, g, x0, y0, bw, bh, mvx, mvy, out);
+    limits::DONE
+}
+
+// The chroma block at (x0, y0), moved by the vector in eighth samples, into out by rows.
+pub fn mc_chroma_padded(
+    padded: &[u8],
+    g: Geometry,
+    x0: usize,
+    y0: usize,
+    bw: usize,
+    bh: usize,
+    mvx: i32,
+    mvy: i32,
+    out: &mut [u8],
+) -> u32
+    ensures { λ r. ⌜ (r ≡ paddedBlockRefusal 8 (length (now (padded .entry))) (g .pw) (g .ph) (g .pad) (g .stride) x0 y0 bw bh (length (now (out .entry))))
+        × (now (out .exit) ≡ after r (now (out .entry)) (drawn (now (out .entry)) bw bh (paddedChroma (now (padded .entry)) (g .stride) (g .pad) (g .pw) (g .ph) x0 y0 bw bh mvx mvy))) ⌝ }
+{
+    let no = limits::check_padded_block(
+        limits::CHROMA,
+        padded.len(),
+        g.pw,
+        g.ph,
+        g.pad,
+        g.stride,
+        x0,
+        y0,
+        bw,
+        bh,
+        out.len(),
+    );
+    if no != limits::DONE {
+        return no;
+    }
+    chroma_block(padded, g, x0, y0, bw, bh, mvx, mvy, out);
+    limits::DONE
+}
+
+fn shorter(m: usize, n: usize) -> usize
+    ensures { λ r. ⌜ r ≡ min m n ⌝ }
+{
+    if m < n { m } else { n }
+}
+
+// Both chroma planes at once: the shorter plane and the shorter output decide, and a refusal writes neither.
+pub fn mc_chroma_padded_pair(
+    pu: &[u8],
+    pv: &[u8],
+    g: Geometry,
+    x0: usize,
+    y0: usize,
+    bw: usize,
+    bh: usize,
+    mvx: i32,
+    mvy: i32,
+    outu: &mut [u8],
+    outv: &mut [u8],
+) -> u32
+    ensures { λ r. ⌜ (r ≡ paddedBlockRefusal 8 (min (length (now (pu .entry))) (length (now (pv .entry)))) (g .pw) (g .ph) (g .pad) (g .stride) x0 y0 bw bh (min (length (now (outu .entry))) (length (now (outv .entry)))))
+        × (now (outu .exit) ≡ after r (now (outu .entry)) (drawn (now (outu .entry)) bw bh (paddedChroma (now (pu .entry)) (g .stride) (g .pad) (g .pw) (g .ph) x0 y0 bw bh mvx mvy)))
+        × (now (outv .exit) ≡ after r (now (outv .entry)) (drawn (now (outv .entry)) bw bh (paddedChroma (now (pv .entry)) (g .stride) (g .pad) (g .pw) (g .ph) x0 y0 bw bh mvx mvy))) ⌝ }
+{
+    let source = shorter(pu.len(), pv.len());
+    let target = shorter(outu.len(), outv.len());
+    let no = limits::check_padded_block(
+        limits::CHROMA,
+        source,
+        g.pw,
+        g.ph,
+        g.pad,
+        g.stride,
+        x0,
+        y0,
+        bw,
+        bh,
+        target,
+    );
+    if no != limits::DONE {
+        return no;
+    }
+    chroma_block(pu, g, x0, y0, bw, bh, mvx, mvy, outu);
+    chroma_block(pv, g, x0, y0, bw, bh, mvx, mvy, outv);
+    limits::DONE
+}
