@@ -1,0 +1,3 @@
+-- The walks over lent records.
+pub mod Apart
+pub mod Long
