@@ -5,13 +5,19 @@ ghost use Rattle.vectors.specs.Predict.{predictAnswer};
 ghost use Rattle.vectors.specs.Partition.{partitionAnswer, partitionsOf};
 ghost use lib.ListN.{length};
 ghost use Rattle.grid.specs.Block.{drawn};
-ghost use Rattle.place.specs.Refusal.{plainBlockRefusal};
+ghost use Prim.Native.Nat.{min};
+ghost use Rattle.place.specs.Refusal.{plainBlockRefusal, paddedRefusal, paddedBlockRefusal};
 ghost use Rattle.place.specs.Outcome.{after};
 ghost use Rattle.luma.specs.Luma.{predictedLuma};
 ghost use Rattle.luma.specs.Average.{rowRefusal, rowMean};
 ghost use Rattle.chroma.specs.Chroma.{predictedChroma};
+ghost use Rattle.margins.specs.Margin.{expanded};
+ghost use Rattle.padded.specs.Padded.{paddedLuma, paddedChroma};
+ghost use Rattle.lent.specs.Lent.{Predicted};
 ghost use Rattle.edge.specs.Edge.{edgeRefusal, outsideCount, answer};
 use edge::Edges;
+use lent::McScratch;
+use margins::Geometry;
 use vectors::MvAnswer;
 use vectors::MvNeighbor;
 use vectors::Partitions;
@@ -52,6 +58,147 @@ pub extern "C" fn inter_mc_chroma(
         × (now (out .exit) ≡ after r (now (out .entry)) (drawn (now (out .entry)) bw bh (predictedChroma (now (reference .entry)) cw ch x0 y0 mvx mvy))) ⌝ }
 {
     chroma::mc_chroma(reference, cw, ch, x0, y0, bw, bh, mvx, mvy, out)
+}
+
+#[no_mangle]
+pub extern "C" fn inter_expand_plane(
+    buf: &mut [u8],
+    stride: usize,
+    pad: usize,
+    pw: usize,
+    ph: usize,
+) -> u32
+    ensures { λ r. ⌜ (r ≡ paddedRefusal (length (now (buf .entry))) pw ph pad stride)
+        × (now (buf .exit) ≡ after r (now (buf .entry)) (expanded (now (buf .entry)) stride pad pw ph)) ⌝ }
+{
+    let g = Geometry {
+        stride: stride,
+        pad: pad,
+        pw: pw,
+        ph: ph,
+    };
+    margins::expand_plane(buf, g)
+}
+
+#[no_mangle]
+pub extern "C" fn inter_mc_luma_padded(
+    padded: &[u8],
+    stride: usize,
+    pad: usize,
+    pw: usize,
+    ph: usize,
+    x0: usize,
+    y0: usize,
+    bw: usize,
+    bh: usize,
+    mvx: i32,
+    mvy: i32,
+    out: &mut [u8],
+) -> u32
+    ensures { λ r. ⌜ (r ≡ paddedBlockRefusal 16 (length (now (padded .entry))) pw ph pad stride x0 y0 bw bh (length (now (out .entry))))
+        × (now (out .exit) ≡ after r (now (out .entry)) (drawn (now (out .entry)) bw bh (paddedLuma (now (padded .entry)) stride pad pw ph x0 y0 bw bh mvx mvy))) ⌝ }
+{
+    let g = Geometry {
+        stride: stride,
+        pad: pad,
+        pw: pw,
+        ph: ph,
+    };
+    padded::mc_luma_padded(padded, g, x0, y0, bw, bh, mvx, mvy, out)
+}
+
+#[no_mangle]
+pub extern "C" fn inter_mc_luma_padded_pre(
+    scr: &mut McScratch,
+    padded: &[u8],
+    stride: usize,
+    pad: usize,
+    pw: usize,
+    ph: usize,
+    x0: usize,
+    y0: usize,
+    bw: usize,
+    bh: usize,
+    mvx: i32,
+    mvy: i32,
+    out: &mut [u8],
+) -> u32
+    ensures { λ r. ⌜ Predicted (now (scr .entry) .tile) (now (scr .entry) .a) (now (scr .entry) .b) (now (padded .entry)) stride pad pw ph x0 y0 bw bh mvx mvy (now (out .entry)) (now (scr .exit) .tile) (now (scr .exit) .a) (now (scr .exit) .b) (now (out .exit)) r ⌝ }
+{
+    lent::luma_arrays(
+        &mut scr.tile,
+        &mut scr.a,
+        &mut scr.b,
+        padded,
+        stride,
+        pad,
+        pw,
+        ph,
+        x0,
+        y0,
+        bw,
+        bh,
+        mvx,
+        mvy,
+        out,
+    )
+}
+
+#[no_mangle]
+pub extern "C" fn inter_mc_chroma_padded(
+    padded: &[u8],
+    stride: usize,
+    pad: usize,
+    pw: usize,
+    ph: usize,
+    x0: usize,
+    y0: usize,
+    bw: usize,
+    bh: usize,
+    mvx: i32,
+    mvy: i32,
+    out: &mut [u8],
+) -> u32
+    ensures { λ r. ⌜ (r ≡ paddedBlockRefusal 8 (length (now (padded .entry))) pw ph pad stride x0 y0 bw bh (length (now (out .entry))))
+        × (now (out .exit) ≡ after r (now (out .entry)) (drawn (now (out .entry)) bw bh (paddedChroma (now (padded .entry)) stride pad pw ph x0 y0 bw bh mvx mvy))) ⌝ }
+{
+    let g = Geometry {
+        stride: stride,
+        pad: pad,
+        pw: pw,
+        ph: ph,
+    };
+    padded::mc_chroma_padded(padded, g, x0, y0, bw, bh, mvx, mvy, out)
+}
+
+#[no_mangle]
+pub extern "C" fn inter_mc_chroma_padded_pair(
+    pu: &[u8],
+    pv: &[u8],
+    stride: usize,
+    pad: usize,
+    pw: usize,
+    ph: usize,
+    x0: usize,
+    y0: usize,
+    bw: usize,
+    bh: usize,
+    mvx: i32,
+    mvy: i32,
+    outu: &mut [u8],
+    outv: &mut [u8],
+) -> u32
+    ensures { λ r. ⌜ (r ≡ paddedBlockRefusal 8 (min (length (now (pu .entry))) (length (now (pv .entry)))) pw ph pad stride x0 y0 bw bh (min (length (now (outu .entry))) (length (now (outv .entry)))))
+        × (now (outu .exit) ≡ after r (now (outu .entry)) (drawn (now (outu .entry)) bw bh (paddedChroma (now (pu .entry)) stride pad pw ph x0 y0 bw bh mvx mvy)))
+        × (now (outv .exit) ≡ after r (now (outv .entry)) (drawn (now (outv .entry)) bw bh (paddedChroma (now (pv .entry)) stride pad pw ph x0 y0 bw bh mvx mvy))) ⌝ }
+{
+    let g = Geometry {
+        stride: stride,
+        pad: pad,
+        pw: pw,
+        ph: ph,
+    };
+    padded::mc_chroma_padded_pair(pu, pv, g, x0, y0, bw, bh, mvx, mvy, outu, outv)
 }
 
 #[no_mangle]
