@@ -94,6 +94,113 @@ inter_edges inter_edge_count(
     int32_t mvx,
     int32_t mvy);
 
+/* ---- Pictures with margins: pw by ph samples whose first stands pad columns and pad rows on, ---
+ * in rows that start stride bytes apart: stride * (ph + 2 * pad) bytes. pad is 0..128, stride from
+ * pw + 2 * pad up to 16384. A block is read in place where it lies inside picture plus margin with
+ * its neighbours (luma two samples before and three after, chroma one after), whatever stands
+ * there; otherwise from the picture, whose nearest row or column stands in. */
+
+/*
+ * Fills the margins: left and right of each picture row, then the whole first and last rows, all
+ * stride bytes, into the rows above and below. Refuses with 1 and 2.
+ */
+uint32_t inter_expand_plane(
+    uint8_t *buf,
+    size_t buf_len,
+    size_t stride,
+    size_t pad,
+    size_t pw,
+    size_t ph);
+
+/*
+ * As inter_mc_luma, from a picture with margins. Refuses with 1 to 5.
+ */
+uint32_t inter_mc_luma_padded(
+    const uint8_t *padded,
+    size_t padded_len,
+    size_t stride,
+    size_t pad,
+    size_t pw,
+    size_t ph,
+    size_t x0,
+    size_t y0,
+    size_t bw,
+    size_t bh,
+    int32_t mvx,
+    int32_t mvy,
+    uint8_t *out,
+    size_t out_len);
+
+/* What inter_mc_luma_padded_pre works in. A refusal leaves it as it was; done leaves anything. */
+typedef struct inter_mc_scratch {
+    uint8_t tile[441];
+    uint8_t a[256];
+    uint8_t b[256];
+} inter_mc_scratch;
+
+/*
+ * As inter_mc_luma_padded, with the scratch lent instead of on the stack. Refuses with 1 to 5.
+ */
+uint32_t inter_mc_luma_padded_pre(
+    inter_mc_scratch *scr,
+    const uint8_t *padded,
+    size_t padded_len,
+    size_t stride,
+    size_t pad,
+    size_t pw,
+    size_t ph,
+    size_t x0,
+    size_t y0,
+    size_t bw,
+    size_t bh,
+    int32_t mvx,
+    int32_t mvy,
+    uint8_t *out,
+    size_t out_len);
+
+/*
+ * As inter_mc_chroma, from a plane with margins. Refuses with 1 to 5.
+ */
+uint32_t inter_mc_chroma_padded(
+    const uint8_t *padded,
+    size_t padded_len,
+    size_t stride,
+    size_t pad,
+    size_t pw,
+    size_t ph,
+    size_t x0,
+    size_t y0,
+    size_t bw,
+    size_t bh,
+    int32_t mvx,
+    int32_t mvy,
+    uint8_t *out,
+    size_t out_len);
+
+/*
+ * Both chroma planes, of one geometry, at once: the shorter plane and the shorter output decide,
+ * and a refusal writes neither. Refuses with 1 to 5.
+ */
+uint32_t inter_mc_chroma_padded_pair(
+    const uint8_t *pu,
+    size_t pu_len,
+    const uint8_t *pv,
+    size_t pv_len,
+    size_t stride,
+    size_t pad,
+    size_t pw,
+    size_t ph,
+    size_t x0,
+    size_t y0,
+    size_t bw,
+    size_t bh,
+    int32_t mvx,
+    int32_t mvy,
+    uint8_t *outu,
+    size_t outu_len,
+    uint8_t *outv,
+    size_t outv_len);
+
 /* ---- Rows --------------------------------------------------------------------------------- */
 
 /*

@@ -53,7 +53,28 @@ pub struct Edges {
     pub count: u32,
 }
 
-// The unsafe ones read and write through each pointer up to the length after it.
+/// What `inter_mc_luma_padded_pre` works in. Its bytes say nothing, before a call or after.
+#[repr(C)]
+#[derive(Clone, Debug)]
+pub struct McScratch {
+    tile: [u8; 441],
+    a: [u8; 256],
+    b: [u8; 256],
+}
+
+impl McScratch {
+    pub const fn new() -> McScratch {
+        McScratch { tile: [0; 441], a: [0; 256], b: [0; 256] }
+    }
+}
+
+impl Default for McScratch {
+    fn default() -> McScratch {
+        McScratch::new()
+    }
+}
+
+// The unsafe ones read and write through each pointer: up to the length after it, or one record.
 unsafe extern "C" {
     pub safe fn inter_median3(a: i32, b: i32, c: i32) -> i32;
 
@@ -125,4 +146,86 @@ unsafe extern "C" {
         mvx: i32,
         mvy: i32,
     ) -> Edges;
+
+    pub unsafe fn inter_expand_plane(
+        buf: *mut u8,
+        buf_len: usize,
+        stride: usize,
+        pad: usize,
+        pw: usize,
+        ph: usize,
+    ) -> u32;
+
+    pub unsafe fn inter_mc_luma_padded(
+        padded: *const u8,
+        padded_len: usize,
+        stride: usize,
+        pad: usize,
+        pw: usize,
+        ph: usize,
+        x0: usize,
+        y0: usize,
+        bw: usize,
+        bh: usize,
+        mvx: i32,
+        mvy: i32,
+        out: *mut u8,
+        out_len: usize,
+    ) -> u32;
+
+    pub unsafe fn inter_mc_chroma_padded(
+        padded: *const u8,
+        padded_len: usize,
+        stride: usize,
+        pad: usize,
+        pw: usize,
+        ph: usize,
+        x0: usize,
+        y0: usize,
+        bw: usize,
+        bh: usize,
+        mvx: i32,
+        mvy: i32,
+        out: *mut u8,
+        out_len: usize,
+    ) -> u32;
+
+    pub unsafe fn inter_mc_luma_padded_pre(
+        scr: *mut McScratch,
+        padded: *const u8,
+        padded_len: usize,
+        stride: usize,
+        pad: usize,
+        pw: usize,
+        ph: usize,
+        x0: usize,
+        y0: usize,
+        bw: usize,
+        bh: usize,
+        mvx: i32,
+        mvy: i32,
+        out: *mut u8,
+        out_len: usize,
+    ) -> u32;
+
+    pub unsafe fn inter_mc_chroma_padded_pair(
+        pu: *const u8,
+        pu_len: usize,
+        pv: *const u8,
+        pv_len: usize,
+        stride: usize,
+        pad: usize,
+        pw: usize,
+        ph: usize,
+        x0: usize,
+        y0: usize,
+        bw: usize,
+        bh: usize,
+        mvx: i32,
+        mvy: i32,
+        outu: *mut u8,
+        outu_len: usize,
+        outv: *mut u8,
+        outv_len: usize,
+    ) -> u32;
 }

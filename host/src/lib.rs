@@ -6,10 +6,15 @@
 
 // The calls are inlined where they are used, so that each costs what the C call costs.
 pub mod ffi;
+mod padded;
 mod plain;
 mod refusal;
 mod vectors;
 
+pub use padded::{
+    expand_plane, mc_chroma_padded, mc_chroma_padded_pair, mc_luma_padded, mc_luma_padded_pre,
+    Geometry, McScratch,
+};
 pub use plain::{avg_row_into, edge_count, mc_chroma, mc_luma};
 pub use refusal::Refusal;
 pub use vectors::{

@@ -15,17 +15,15 @@ use Refusal::{BlockSide, Output, Position, Side, Source};
 
 type Ours =
     fn(&[u8], usize, usize, usize, usize, usize, usize, i32, i32, &mut [u8]) -> Result<(), Refusal>;
-type Theirs = fn(&[u8], usize, usize, usize, usize, usize, usize, i32, i32, &mut [u8]);
 
 struct Route {
     kind: Kind,
     ours: Ours,
-    theirs: Theirs,
 }
 
-const LUMA_ROUTE: Route = Route { kind: LUMA, ours: mc_luma, theirs: rust::mc_luma };
+const LUMA_ROUTE: Route = Route { kind: LUMA, ours: mc_luma };
 
-const CHROMA_ROUTE: Route = Route { kind: CHROMA, ours: mc_chroma, theirs: rust::mc_chroma };
+const CHROMA_ROUTE: Route = Route { kind: CHROMA, ours: mc_chroma };
 
 /// One comparison: a route, its output, and what was counted.
 struct Comparison {
@@ -73,8 +71,9 @@ impl Comparison {
         ]);
         // Outside the limits the oracle panics or fills in, so there nothing may change.
         if expected.is_ok() {
-            (route.theirs)(picture.theirs(), cw, ch, x0, y0, bw, bh, mvx, mvy, out.theirs_mut());
-            tally.count_phase(&route.kind, &block);
+            let (kind, out) = (&route.kind, out.theirs_mut());
+            (kind.plain)(picture.theirs(), cw, ch, x0, y0, bw, bh, mvx, mvy, out);
+            tally.count_phase(kind, &block);
         }
         let answer = (route.ours)(picture.ours(), cw, ch, x0, y0, bw, bh, mvx, mvy, out.ours_mut());
         let told = |what| format!("{what}: picture {cw}x{ch}, {block:?}, output {}", out.len());

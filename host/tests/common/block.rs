@@ -1,6 +1,11 @@
 //! Blocks and pictures to predict from.
 
+use inter::Geometry;
+use oracle::inter as rust;
+
 use super::Rng;
+
+type Plain = fn(&[u8], usize, usize, usize, usize, usize, usize, i32, i32, &mut [u8]);
 
 /// What sets luma and chroma apart.
 pub struct Kind {
@@ -8,10 +13,15 @@ pub struct Kind {
     pub bits: u32,
     /// The longest side of a block.
     pub most: usize,
+    /// The samples before and after a block that it is made of too, on each axis.
+    pub before: usize,
+    pub after: usize,
+    /// The Rust's route on a picture without margins.
+    pub plain: Plain,
 }
 
-pub const LUMA: Kind = Kind { bits: 2, most: 16 };
-pub const CHROMA: Kind = Kind { bits: 3, most: 8 };
+pub const LUMA: Kind = Kind { bits: 2, most: 16, before: 2, after: 3, plain: rust::mc_luma };
+pub const CHROMA: Kind = Kind { bits: 3, most: 8, before: 0, after: 1, plain: rust::mc_chroma };
 
 impl Kind {
     /// The phases of one axis.
@@ -44,10 +54,52 @@ impl Block {
         Block { x0, y0, bw, bh, mvx, mvy }
     }
 
+    /// A block of that size in, across or outside a picture with margins. One in three is made of
+    /// samples inside of them alone, if it is small enough.
+    pub fn drawn_with_margins(
+        rng: &mut Rng,
+        kind: &Kind,
+        g: Geometry,
+        (bw, bh): (usize, usize),
+    ) -> Block {
+        let inside = rng.within(0, 2) == 0;
+        let mut axis = |side: usize, block: usize| {
+            let first = kind.before as i64 - g.pad as i64;
+            let last = (side + g.pad) as i64 - (block + kind.after) as i64;
+            if inside && first <= last {
+                let (place, x0) = (rng.within(first, last), rng.within(0, 65535));
+                return (x0 as usize, towards(rng, kind, x0, place));
+            }
+            // The edges are those of the picture, or those of its margins.
+            let margin = rng.pick(&[0, g.pad]);
+            let (x0, mv) = drawn_axis(rng, kind, side + 2 * margin, block);
+            (x0, mv.wrapping_sub((margin as i32) << kind.bits))
+        };
+        let ((x0, mvx), (y0, mvy)) = (axis(g.pw, bw), axis(g.ph, bh));
+        Block { x0, y0, bw, bh, mvx, mvy }
+    }
+
+    /// A block of that size whose first sample has the place (`ix`, `iy`).
+    pub fn placed(
+        rng: &mut Rng,
+        kind: &Kind,
+        (ix, iy): (i64, i64),
+        (bw, bh): (usize, usize),
+    ) -> Block {
+        let [x0, y0] = [(); 2].map(|()| rng.within(0, 65535));
+        let (mvx, mvy) = (towards(rng, kind, x0, ix), towards(rng, kind, y0, iy));
+        Block { x0: x0 as usize, y0: y0 as usize, bw, bh, mvx, mvy }
+    }
+
     /// The same block in the same place, at the phase (`fx`, `fy`).
     pub fn at_phase(self, kind: &Kind, fx: i32, fy: i32) -> Block {
         let whole = !(kind.steps() - 1);
         Block { mvx: self.mvx & whole | fx, mvy: self.mvy & whole | fy, ..self }
+    }
+
+    /// The phase of each component.
+    pub fn phase(&self, kind: &Kind) -> (i32, i32) {
+        (self.mvx.rem_euclid(kind.steps()), self.mvy.rem_euclid(kind.steps()))
     }
 
     /// The bytes of the block.
@@ -90,10 +142,15 @@ fn drawn_axis(rng: &mut Rng, kind: &Kind, side: usize, block: usize) -> (usize, 
                 0 => rng.within(0, 65535),
                 _ => rng.within(0, side + 3),
             };
-            let phase = rng.within(0, kind.steps() as i64 - 1);
-            (x0 as usize, ((place - x0) << kind.bits | phase) as i32)
+            (x0 as usize, towards(rng, kind, x0, place))
         }
     }
+}
+
+/// A component that leads from `x0` to `place`, at a drawn phase.
+fn towards(rng: &mut Rng, kind: &Kind, x0: i64, place: i64) -> i32 {
+    let phase = rng.within(0, kind.steps() as i64 - 1);
+    ((place - x0) << kind.bits | phase) as i32
 }
 
 /// The samples of a picture: noise, black and white, a slope, one grey, or one lit sample.

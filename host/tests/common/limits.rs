@@ -1,8 +1,9 @@
 //! The table of refusals as a model: each test in words of the numbers alone.
 
-use inter::Refusal;
+use inter::{Geometry, Refusal};
 
 use super::block::{Block, Kind};
+use super::plane::rows;
 
 /// Two numbers far outside every range; the first times itself is 0 in 64 bits.
 pub const HUGE: [usize; 2] = [1 << 32, usize::MAX];
@@ -30,6 +31,19 @@ pub fn side(cw: usize, ch: usize) -> (Refusal, bool) {
 /// Refusal 2, of a source that must hold `w` by `h` bytes.
 pub fn source(len: usize, w: usize, h: usize) -> (Refusal, bool) {
     (Refusal::Source, short(len, w, h))
+}
+
+/// Refusal 1, of a picture with margins.
+pub fn geometry(g: Geometry) -> (Refusal, bool) {
+    // Wide enough that no three numbers add up past it.
+    let width = g.pw as u128 + 2 * g.pad as u128;
+    let stride = g.stride as u128;
+    (Refusal::Side, side(g.pw, g.ph).1 || g.pad > 128 || stride < width || stride > 16384)
+}
+
+/// Refusal 2, of a source that must hold a picture with margins.
+pub fn padded_source(len: usize, g: Geometry) -> (Refusal, bool) {
+    source(len, g.stride, rows(g))
 }
 
 /// Refusal 3.

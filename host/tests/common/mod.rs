@@ -5,6 +5,7 @@
 
 pub mod block;
 pub mod limits;
+pub mod plane;
 pub mod tally;
 pub mod twin;
 

@@ -66,6 +66,12 @@ impl Twin {
         &mut self.theirs[GUARD..][..self.len]
     }
 
+    /// What ours holds now holds on both sides: only the bytes around it must agree.
+    pub fn let_ours_hold(&mut self) {
+        let held = GUARD..GUARD + self.len;
+        self.theirs[held.clone()].copy_from_slice(&self.ours[held]);
+    }
+
     pub fn agree(&self) -> bool {
         self.ours == self.theirs
     }
