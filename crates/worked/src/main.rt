@@ -1,4 +1,7 @@
 // Document 01's cases as a run: each line is a case, the answer's number (0 done) and what the call gave. The file stdout has what the document says.
+ghost use Prim.Native.Nat.{_≤_};
+ghost use lib.ListN.{length};
+use margins::Geometry;
 use samples::taps;
 use vectors::Mv;
 use vectors::MvNeighbor;
@@ -71,6 +74,43 @@ fn edges(name: &[u8], mvx: i32, mvy: i32) {
     line(name, e.refusal, e.count);
 }
 
+// A black picture of 16 by 16 with margins of 32, at 255 where they are not filled.
+const WIDE: Geometry = Geometry {
+    stride: 80,
+    pad: 32,
+    pw: 16,
+    ph: 16,
+};
+
+// The first and the last byte of the 16 by 16 block at column ix, of margins that were never filled.
+fn unfilled(name: &[u8], ix: i32) {
+    let mut buf = [255u8; 6400];
+    blacken(&mut buf);
+    let mut out = [0u8; 256];
+    let answer = padded::mc_luma_padded(&buf, WIDE, 0, 0, 16, 16, ix, 0, &mut out);
+    line(name, answer, taps::wide(out[0]) as u32);
+    line(name, answer, taps::wide(out[255]) as u32);
+}
+
+// The same once the margins are filled.
+fn filled(name: &[u8], ix: i32) {
+    let mut buf = [255u8; 6400];
+    blacken(&mut buf);
+    let done = margins::expand_plane(&mut buf, WIDE);
+    let mut out = [0u8; 256];
+    let answer = padded::mc_luma_padded(&buf, WIDE, 0, 0, 16, 16, ix, 0, &mut out);
+    line(name, done, taps::wide(out[0]) as u32);
+    line(name, answer, taps::wide(out[255]) as u32);
+}
+
+fn blacken(buf: &mut [u8])
+    requires { ⌜ 6400 ≤ length (now buf) ⌝ }
+{
+    for y in 32..48usize {
+        grid::fill_run(buf, y * 80 + 32, 16, 0);
+    }
+}
+
 fn neighbour(available: bool, x: i32, y: i32, ref_idx: i32) -> MvNeighbor {
     MvNeighbor {
         available: available,
@@ -136,6 +176,14 @@ fn main() {
     chroma(b"chroma by (1,0)", 1, 0);
     edges(b"edge count by (-4,0)", -4, 0);
     edges(b"edge count by (0,0)", 0, 0);
+    unfilled(b"margins at 255, column -31: clamped", -124);
+    unfilled(b"margins at 255, column -30: in place", -120);
+    unfilled(b"margins at 255, column 29: in place", 116);
+    unfilled(b"margins at 255, column 30: clamped", 120);
+    filled(b"margins filled, column -31", -124);
+    filled(b"margins filled, column -30", -120);
+    filled(b"margins filled, column 29", 116);
+    filled(b"margins filled, column 30", 120);
     luma(b"side 0", &r, 0, 1, 0, 0, 0, 0);
     luma(b"source one short", &r, 7, 1, 0, 0, 0, 0);
     luma(b"position 65536", &r, 6, 1, 65536, 0, 0, 0);
