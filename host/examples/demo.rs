@@ -4,7 +4,10 @@ use std::collections::BTreeSet;
 use std::fmt::Display;
 use std::process::ExitCode;
 
-use inter::{edge_count, mc_chroma, mc_luma, median3, predict_mv, Mv, MvNeighbor, Refusal};
+use inter::{
+    edge_count, expand_plane, mc_chroma, mc_luma, mc_luma_padded, median3, predict_mv, Geometry,
+    Mv, MvNeighbor, Refusal,
+};
 
 /// A picture of samples, and how many of them make a row.
 struct Picture {
@@ -75,6 +78,7 @@ fn main() -> ExitCode {
     every_phase(&mut table);
     vectors(&mut table);
     edges(&mut table);
+    margins(&mut table);
     match table.wrong {
         0 => {
             println!("\nAll as the document says.");
@@ -147,4 +151,51 @@ fn edges(table: &mut Table) {
     table.head("samples over the edge");
     let case = "16x16 picture, 16x16 block at 0,0, vector (-4,0)";
     table.row(case, 16, edge_count(16, 16, 0, 0, 16, 16, -4, 0));
+}
+
+/// A picture of 16x16 samples with margins of 32.
+const FRAMED: Geometry = Geometry { stride: 80, pad: 32, pw: 16, ph: 16 };
+
+/// The 16x16 block that padded luma draws at (0, 0), moved by (`mvx`, `mvy`).
+fn framed_block(plane: &[u8], mvx: i32, mvy: i32) -> Result<[u8; 256], Refusal> {
+    let mut out = [0; 256];
+    mc_luma_padded(plane, FRAMED, 0, 0, 16, 16, mvx, mvy, &mut out)?;
+    Ok(out)
+}
+
+/// A plane whose margins are 255, with that picture inside.
+fn framed(picture: &[u8; 256]) -> Vec<u8> {
+    let Geometry { stride, pad, pw, ph } = FRAMED;
+    let mut plane = vec![255; stride * (ph + 2 * pad)];
+    for (y, row) in picture.chunks(pw).enumerate() {
+        plane[(pad + y) * stride + pad..][..pw].copy_from_slice(row);
+    }
+    plane
+}
+
+fn margins(table: &mut Table) {
+    table.head("16x16 picture, pad 32, 16x16 block from (ix,0)");
+
+    // No two samples of the picture are the same.
+    let picture: [u8; 256] = std::array::from_fn(|at| at as u8);
+    let agrees = |(mvx, mvy)| {
+        let mut plane = framed(&picture);
+        expand_plane(&mut plane, FRAMED)?;
+        let mut out = [0; 256];
+        mc_luma(&picture, 16, 16, 0, 0, 16, 16, mvx, mvy, &mut out)?;
+        Ok(framed_block(&plane, mvx, mvy)? == out)
+    };
+    let vectors =
+        (-31..=30).flat_map(|ix| (0..16).map(move |phase| (4 * ix + phase % 4, phase / 4)));
+    let agreed: Result<Vec<bool>, Refusal> = vectors.map(agrees).collect();
+    let agreed = agreed.map(|agreed| agreed.into_iter().filter(|&agrees| agrees).count());
+    table.row("margins filled, ix -31..30, 16 phases: blocks as mc_luma's", 62 * 16, agreed);
+
+    let black = framed(&[0; 256]);
+    for (ix, name, at, says) in
+        [(-31, "first", 0, 0), (-30, "first", 0, 255), (29, "last", 255, 255), (30, "last", 255, 0)]
+    {
+        let case = format!("black with margins left at 255, ix {ix}: {name} byte");
+        table.row(&case, says, framed_block(&black, 4 * ix, 0).map(|block| block[at]));
+    }
 }

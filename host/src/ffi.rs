@@ -63,6 +63,7 @@ pub struct McScratch {
 }
 
 impl McScratch {
+    /// A scratch of zeros; any other would do as well.
     pub const fn new() -> McScratch {
         McScratch { tile: [0; 441], a: [0; 256], b: [0; 256] }
     }

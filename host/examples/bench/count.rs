@@ -17,7 +17,7 @@ extern "C" fn bench_mark() {
 /// Makes the calls of every item, each lot between two marks.
 pub fn make_calls(items: &[Item]) {
     for item in items {
-        let mut out = vec![0; item.len];
+        let mut out = item.lent.clone();
         make_lot(&item.calls.nothing, &mut out);
         for call in &item.calls.by_library {
             make_lot(call, &mut out);

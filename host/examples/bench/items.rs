@@ -3,6 +3,7 @@
 use std::hint::black_box;
 
 use inter as ours;
+use inter::Geometry;
 use oracle::inter as scalar;
 #[cfg(simd)]
 use simd::inter as simd;
@@ -21,8 +22,8 @@ pub type Call = Box<dyn Fn(&mut [u8])>;
 pub struct Item {
     pub group: String,
     pub name: String,
-    /// How many bytes a call writes.
-    pub len: usize,
+    /// What a call is lent to write to.
+    pub lent: Vec<u8>,
     pub calls: Calls,
 }
 
@@ -36,7 +37,7 @@ impl Item {
     /// Ends the run where the libraries do not write the same bytes.
     pub fn check(&self) {
         let written = |call: &Call| {
-            let mut out = vec![0xa5; self.len];
+            let mut out = self.lent.clone();
             call(&mut out);
             out
         };
@@ -46,20 +47,43 @@ impl Item {
     }
 }
 
-/// The function of that name in each library, called as `shape` does with what is given.
+/// The function, called as the body does with the bytes that are lent.
+macro_rules! call {
+    ($function:expr, |$call:ident, $lent:ident| $body:expr) => {{
+        let $call = $function;
+        let call: Call = Box::new(move |$lent| {
+            let _ = $body;
+        });
+        call
+    }};
+}
+
+/// The function of that name in each library. Ours may take its arguments in a way of its own.
 macro_rules! calls {
-    ($shape:ident, $name:ident, $nothing:ident, $($given:expr),*) => {
+    ($name:ident, $nothing:ident, |$call:ident, $lent:ident| $same:expr) => {
+        calls!($name, $nothing, |$call, $lent| $same, $same)
+    };
+    ($name:ident, $nothing:ident, |$call:ident, $lent:ident| $ours:expr, $rust:expr) => {
         Calls {
             by_library: Vec::from([
-                $shape(ours::$name, $($given),*),
-                $shape(scalar::$name, $($given),*),
+                call!(ours::$name, |$call, $lent| $ours),
+                call!(scalar::$name, |$call, $lent| $rust),
                 #[cfg(simd)]
-                $shape(simd::$name, $($given),*),
+                call!(simd::$name, |$call, $lent| $rust),
             ]),
             // Hidden from the compiler, which would leave out arguments that nobody reads.
-            nothing: $shape(black_box($nothing), $($given),*),
+            nothing: call!(black_box($nothing), |$call, $lent| $rust),
         }
     };
+}
+
+fn noise(len: usize) -> Vec<u8> {
+    let mut state = 1u32;
+    let noise = std::iter::repeat_with(|| {
+        state = state.wrapping_mul(1_664_525).wrapping_add(1_013_904_223);
+        (state >> 24) as u8
+    });
+    noise.take(len).collect()
 }
 
 /// A plane of noise.
@@ -72,13 +96,29 @@ struct Plane {
 
 impl Plane {
     fn new(w: usize, h: usize) -> Plane {
-        let mut state = 1u32;
-        let noise = std::iter::repeat_with(|| {
-            state = state.wrapping_mul(1_664_525).wrapping_add(1_013_904_223);
-            (state >> 24) as u8
-        });
-        Plane { samples: noise.take(w * h).collect::<Vec<_>>().leak(), w, h }
+        Plane { samples: noise(w * h).leak(), w, h }
     }
+}
+
+/// A plane of noise with margins, which are filled.
+#[derive(Clone, Copy)]
+struct Padded {
+    samples: &'static [u8],
+    g: Geometry,
+}
+
+impl Padded {
+    fn new(pw: usize, ph: usize, pad: usize) -> Padded {
+        let g = Geometry { stride: pw + 2 * pad, pad, pw, ph };
+        let mut samples = noise(bytes(g));
+        scalar::expand_plane(&mut samples, g.stride, pad, pw, ph);
+        Padded { samples: samples.leak(), g }
+    }
+}
+
+/// How many bytes such a plane has.
+fn bytes(g: Geometry) -> usize {
+    g.stride * (g.ph + 2 * g.pad)
 }
 
 /// A square block, and the vector that is its phase.
@@ -95,9 +135,9 @@ impl Block {
         Block { side, x0: 64, y0: 64, phase }
     }
 
-    /// Over the lower right corner of the plane, by three columns and rows.
-    fn over_edge(plane: Plane, side: usize, phase: (i32, i32)) -> Block {
-        Block { x0: plane.w - side + 3, y0: plane.h - side + 3, ..Block::inside(side, phase) }
+    /// Over the lower right corner of what is `w` by `h`, by three columns and rows.
+    fn over_edge(w: usize, h: usize, side: usize, phase: (i32, i32)) -> Block {
+        Block { x0: w - side + 3, y0: h - side + 3, ..Block::inside(side, phase) }
     }
 
     /// The item of a call that predicts this block; `edge` is empty or says that it is over one.
@@ -106,7 +146,7 @@ impl Block {
         let size = format!(" {side}x{side}");
         let group = format!("{call}{}", if edge.is_empty() { &size } else { edge });
         let name = format!("{call}{size}{edge} ({fx},{fy})");
-        Item { group, name, len: side * side, calls }
+        Item { group, name, lent: vec![0xa5; side * side], calls }
     }
 }
 
@@ -114,69 +154,166 @@ type Plain = fn(&[u8], usize, usize, usize, usize, usize, usize, i32, i32, &mut 
 const NO_PLAIN: Plain = |_, _, _, _, _, _, _, _, _, _| ();
 
 /// A block predicted from a picture without margins.
-fn plain<T>(
-    predict: impl Fn(&[u8], usize, usize, usize, usize, usize, usize, i32, i32, &mut [u8]) -> T
-        + 'static,
-    plane: Plane,
-    block: Block,
-) -> Call {
-    let Plane { samples, w, h } = plane;
-    let Block { side, x0, y0, phase: (mvx, mvy) } = block;
-    Box::new(move |out| {
-        predict(samples, w, h, x0, y0, side, side, mvx, mvy, out);
-    })
+macro_rules! plain {
+    ($name:ident, $edge:expr, $plane:expr, $block:expr) => {{
+        let Plane { samples, w, h } = $plane;
+        let Block { side, x0, y0, phase: (mvx, mvy) } = $block;
+        let calls = calls!($name, NO_PLAIN, |predict, out| predict(
+            samples, w, h, x0, y0, side, side, mvx, mvy, out
+        ));
+        $block.item(stringify!($name), $edge, calls)
+    }};
 }
 
 fn mc_luma(edge: &str, plane: Plane, block: Block) -> Item {
-    block.item("mc_luma", edge, calls!(plain, mc_luma, NO_PLAIN, plane, block))
+    plain!(mc_luma, edge, plane, block)
 }
 
 fn mc_chroma(edge: &str, plane: Plane, block: Block) -> Item {
-    block.item("mc_chroma", edge, calls!(plain, mc_chroma, NO_PLAIN, plane, block))
+    plain!(mc_chroma, edge, plane, block)
+}
+
+type WithMargins =
+    fn(&[u8], usize, usize, usize, usize, usize, usize, usize, usize, i32, i32, &mut [u8]);
+const NO_WITH_MARGINS: WithMargins = |_, _, _, _, _, _, _, _, _, _, _, _| ();
+
+/// A block predicted from a picture with margins.
+macro_rules! padded {
+    ($name:ident, $edge:expr, $plane:expr, $block:expr) => {{
+        let Padded { samples, g } = $plane;
+        let Geometry { stride, pad, pw, ph } = g;
+        let Block { side, x0, y0, phase: (mvx, mvy) } = $block;
+        let calls = calls!(
+            $name,
+            NO_WITH_MARGINS,
+            |predict, out| predict(samples, g, x0, y0, side, side, mvx, mvy, out),
+            predict(samples, stride, pad, pw, ph, x0, y0, side, side, mvx, mvy, out)
+        );
+        $block.item(stringify!($name), $edge, calls)
+    }};
+}
+
+fn mc_luma_padded(edge: &str, plane: Padded, block: Block) -> Item {
+    padded!(mc_luma_padded, edge, plane, block)
+}
+
+fn mc_chroma_padded(edge: &str, plane: Padded, block: Block) -> Item {
+    padded!(mc_chroma_padded, edge, plane, block)
+}
+
+#[rustfmt::skip]
+type Pair = fn(
+    &[u8], &[u8], usize, usize, usize, usize, usize, usize, usize, usize, i32, i32,
+    &mut [u8], &mut [u8],
+);
+const NO_PAIR: Pair = |_, _, _, _, _, _, _, _, _, _, _, _, _, _| ();
+
+/// A block predicted from two planes with margins, the second upside down.
+fn mc_chroma_padded_pair(plane: Padded, block: Block) -> Item {
+    let Padded { samples: u, g } = plane;
+    let Geometry { stride, pad, pw, ph } = g;
+    let v: &[u8] = u.iter().rev().copied().collect::<Vec<_>>().leak();
+    let Block { side, x0, y0, phase: (mvx, mvy) } = block;
+    let calls = calls!(
+        mc_chroma_padded_pair,
+        NO_PAIR,
+        |predict, out| {
+            let (a, b) = out.split_at_mut(side * side);
+            predict(u, v, g, x0, y0, side, side, mvx, mvy, a, b)
+        },
+        {
+            let (a, b) = out.split_at_mut(side * side);
+            predict(u, v, stride, pad, pw, ph, x0, y0, side, side, mvx, mvy, a, b)
+        }
+    );
+    let item = block.item("mc_chroma_padded_pair", "", calls);
+    Item { lent: vec![0xa5; 2 * side * side], ..item }
+}
+
+type Expand = fn(&mut [u8], usize, usize, usize, usize);
+const NO_EXPAND: Expand = |_, _, _, _, _| ();
+
+/// The margins of a plane filled, which are noise before the first call.
+fn expand_plane(g: Geometry) -> Item {
+    let Geometry { stride, pad, pw, ph } = g;
+    Item {
+        group: "expand_plane".to_string(),
+        name: format!("expand_plane {pw}x{ph} pad {pad}"),
+        lent: noise(bytes(g)),
+        calls: calls!(
+            expand_plane,
+            NO_EXPAND,
+            |expand, plane| expand(plane, g),
+            expand(plane, stride, pad, pw, ph)
+        ),
+    }
 }
 
 type Average = fn(&[u8], &[u8], usize, &mut [u8]);
 const NO_AVERAGE: Average = |_, _, _, _| ();
 
 /// The average of the first two rows of a plane.
-fn average<T>(mean: impl Fn(&[u8], &[u8], usize, &mut [u8]) -> T + 'static, plane: Plane) -> Call {
-    let (a, b) = plane.samples[..2 * plane.w].split_at(plane.w);
-    Box::new(move |out| {
-        mean(a, b, plane.w, out);
-    })
-}
-
 fn avg_row_into(plane: Plane) -> Item {
+    let w = plane.w;
+    let (a, b) = plane.samples[..2 * w].split_at(w);
     Item {
         group: "avg_row_into".to_string(),
-        name: format!("avg_row_into width {}", plane.w),
-        len: plane.w,
-        calls: calls!(average, avg_row_into, NO_AVERAGE, plane),
+        name: format!("avg_row_into width {w}"),
+        lent: vec![0xa5; w],
+        calls: calls!(avg_row_into, NO_AVERAGE, |average, out| average(a, b, w, out)),
     }
 }
+
+fn luma_phases() -> impl Iterator<Item = (i32, i32)> {
+    (0..4).flat_map(|fy| (0..4).map(move |fx| (fx, fy)))
+}
+
+const LUMA_EDGES: [(usize, (i32, i32)); 6] =
+    [(16, (0, 0)), (16, (2, 2)), (8, (0, 0)), (8, (2, 2)), (4, (0, 0)), (4, (2, 2))];
+
+const CHROMA_PHASES: [(i32, i32); 4] = [(0, 0), (4, 0), (0, 4), (3, 5)];
 
 pub fn all() -> Vec<Item> {
     let mut items = Vec::new();
 
-    let plane = Plane::new(352, 288);
+    let (w, h, pad) = (352, 288, 32);
+    let (plane, padded) = (Plane::new(w, h), Padded::new(w, h, pad));
     for side in [16, 8, 4] {
-        let phases = (0..4).flat_map(|fy| (0..4).map(move |fx| (fx, fy)));
-        items.extend(phases.map(|phase| mc_luma("", plane, Block::inside(side, phase))));
+        let blocks = luma_phases().map(|phase| Block::inside(side, phase));
+        items.extend(blocks.map(|block| mc_luma("", plane, block)));
+    }
+    for (side, phase) in LUMA_EDGES {
+        items.push(mc_luma(" edge", plane, Block::over_edge(w, h, side, phase)));
     }
     for side in [16, 8, 4] {
-        for phase in [(0, 0), (2, 2)] {
-            items.push(mc_luma(" edge", plane, Block::over_edge(plane, side, phase)));
-        }
+        let blocks = luma_phases().map(|phase| Block::inside(side, phase));
+        items.extend(blocks.map(|block| mc_luma_padded("", padded, block)));
+    }
+    for (side, phase) in LUMA_EDGES {
+        let block = Block::over_edge(w + pad, h + pad, side, phase);
+        items.push(mc_luma_padded(" edge", padded, block));
     }
 
-    let half = Plane::new(176, 144);
+    let (cw, ch, cpad) = (w / 2, h / 2, pad / 2);
+    let (half, half_padded) = (Plane::new(cw, ch), Padded::new(cw, ch, cpad));
     for side in [8, 4, 2] {
-        for phase in [(0, 0), (4, 0), (0, 4), (3, 5)] {
-            items.push(mc_chroma("", half, Block::inside(side, phase)));
-        }
+        let blocks = CHROMA_PHASES.map(|phase| Block::inside(side, phase));
+        items.extend(blocks.map(|block| mc_chroma("", half, block)));
     }
-    items.push(mc_chroma(" edge", half, Block::over_edge(half, 8, (3, 5))));
+    items.push(mc_chroma(" edge", half, Block::over_edge(cw, ch, 8, (3, 5))));
+    for side in [8, 4, 2] {
+        let blocks = CHROMA_PHASES.map(|phase| Block::inside(side, phase));
+        items.extend(blocks.map(|block| mc_chroma_padded("", half_padded, block)));
+    }
+    let block = Block::over_edge(cw + cpad, ch + cpad, 8, (3, 5));
+    items.push(mc_chroma_padded(" edge", half_padded, block));
 
+    for side in [8, 4, 2] {
+        let blocks = CHROMA_PHASES.map(|phase| Block::inside(side, phase));
+        items.extend(blocks.map(|block| mc_chroma_padded_pair(half_padded, block)));
+    }
+
+    items.push(expand_plane(padded.g));
     items.push(avg_row_into(plane));
     items
 }

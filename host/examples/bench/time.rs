@@ -28,11 +28,11 @@ struct Timer<'a> {
 
 impl Timer<'_> {
     fn of_item(item: &Item) -> Vec<Timer<'_>> {
-        item.calls.by_library.iter().map(|call| Timer::new(call, item.len)).collect()
+        item.calls.by_library.iter().map(|call| Timer::new(call, item.lent.clone())).collect()
     }
 
-    fn new(call: &Call, len: usize) -> Timer<'_> {
-        let mut timer = Timer { call, out: vec![0; len], size: 1, times: Vec::new() };
+    fn new(call: &Call, out: Vec<u8>) -> Timer<'_> {
+        let mut timer = Timer { call, out, size: 1, times: Vec::new() };
         while timer.time() < LOT {
             timer.size *= 2;
         }

@@ -44,7 +44,7 @@ pub fn filled(plane: &[u8], g: Geometry) -> Vec<u8> {
     filled
 }
 
-/// Of the rows or columns `first` to `first` + `count` the one nearest to `at`.
+/// Of the `count` rows or columns from `first` on, the one nearest to `at`.
 fn nearest(at: i64, first: usize, count: usize) -> usize {
     at.clamp(first as i64, (first + count) as i64 - 1) as usize
 }

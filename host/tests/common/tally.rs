@@ -82,8 +82,9 @@ fn say_phases(name: &str, phases: &[u64]) {
         return;
     };
     assert!(*least > 0, "{name}: a phase was left out: {phases:?}");
+    let calls: u64 = phases.iter().sum();
     match phases.len() {
-        16 => say(&format!("{name}: calls by phase, fx within fy {phases:?}")),
-        count => say(&format!("{name}: {count} phases, {least} to {most} calls each")),
+        16 => say(&format!("{name}: {calls} calls by phase, fx within fy {phases:?}")),
+        count => say(&format!("{name}: {calls} calls in {count} phases, {least} to {most} each")),
     }
 }
