@@ -1,2 +1,5 @@
--- The worked sums of document 01, proved of the definitions.
+-- The worked sums of document 01, and demand 3's error bound.
 pub mod Worked
+pub mod Bounds
+pub mod BoundedCalls
+pub mod Ends

@@ -17,7 +17,7 @@ use Rattle.place.specs.Place.{lumaPlace, chromaPlace}
 use Rattle.place.specs.Picture.{sampleAt, window, corner}
 use Rattle.luma.specs.Luma.{predictedLuma}
 use Rattle.chroma.specs.Chroma.{predictedChroma}
-use Rattle.promises.specs.Exact.{exact, excess}
+use Rattle.promises.specs.Exact.{exact, over, excess}
 
 -- a row of six samples, and a block of one sample at column x of it, moved by (v, 0)
 abbrev inRow : List ℕ → ℕ → ℤ → List ℤ
@@ -79,5 +79,5 @@ table =
     ∷ []
 
 pub worked : map (λ r. r .0) table ≡ map (λ r. r .1) table
-unfolding table predictedLuma lumaSample phases anchor mean half centre sixTap clip window sampleAt sample lumaPlace excess exact predictedChroma chromaSample corner chromaPlace median resolved medianMv chosenMv predicted badReference predictAnswer
+unfolding table predictedLuma lumaSample phases anchor mean half centre sixTap clip window sampleAt sample lumaPlace excess over exact predictedChroma chromaSample corner chromaPlace median resolved medianMv chosenMv predicted badReference predictAnswer
 worked = refl

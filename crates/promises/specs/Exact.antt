@@ -15,7 +15,17 @@ exactOf top W (suc (suc (suc n))) dx dy = clip (1024 * top) (sixTap (λ i. sixTa
 unfoldable pub exact : (top : ℕ) → Window → Anchor → ℕ
 exact top W a = exactOf top W (a .kind) (a .dx) (a .dy)
 
--- d = 2048 P - A - B: twice 1024 times what the byte P has over the mean of its exact anchors A and B
+-- A and B: the exact anchors of a phase
+abbrev pub exactA : (top fx fy : ℕ) → Window → ℕ
+exactA top fx fy W = exact top W (phaseOf fx fy .p)
+
+abbrev pub exactB : (top fx fy : ℕ) → Window → ℕ
+exactB top fx fy W = exact top W (phaseOf fx fy .q)
+
+-- d = 2048 P - A - B: twice 1024 times what the byte P has over the mean of A and B
+unfoldable pub over : (top fx fy : ℕ) → Window → (P : ℕ) → ℤ
+over top fx fy W P = pos (2048 * P) -ℤ pos (exactA top fx fy W) -ℤ pos (exactB top fx fy W)
+
+-- d of the byte that the rule gives
 unfoldable pub excess : (top fx fy : ℕ) → Window → ℤ
-excess top fx fy W =
-    pos (2048 * lumaSample top fx fy W) -ℤ pos (exact top W (phaseOf fx fy .p)) -ℤ pos (exact top W (phaseOf fx fy .q))
+excess top fx fy W = over top fx fy W (lumaSample top fx fy W)
