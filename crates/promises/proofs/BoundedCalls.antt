@@ -10,7 +10,6 @@ use Rattle.grid.specs.Block.{drawn}
 use Rattle.grid.proofs.Fill.{drawn-at}
 use Rattle.place.specs.Place.{lumaPlace, phase}
 use Rattle.place.specs.Picture.{window}
-use Rattle.place.specs.Outcome.{after}
 use Rattle.samples.specs.Phase.{Window, lumaSample}
 use Rattle.margins.specs.declared.Geometry.{Geometry}
 use Rattle.luma.specs.Luma.{predictedLuma}
