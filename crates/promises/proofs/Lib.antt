@@ -3,3 +3,4 @@ pub mod Worked
 pub mod Bounds
 pub mod BoundedCalls
 pub mod Ends
+pub mod Determined
