@@ -84,6 +84,10 @@ module _ (d : List ℕ) (o : ℕ) where
       ∙ ap (λ (l : List ℕ). take o d ++ (tab n g ++ l)) (tab-ext m h (λ j. g (n + j)) (λ j c. sym (e j c)))
       ∙ ap (λ (l : List ℕ). take o d ++ l) (sym (tab-add n m g)))
 
+-- a length that was tested stands for its literal
+pub put-long : {x : List ℕ} {n k : ℕ} (d : List ℕ) (o : ℕ) (g : ℕ → ℕ) → x ≡ put d o k g → n ≡ k → x ≡ put d o n g
+put-long d o g p e = p ∙ ap (λ (m : ℕ). put d o m g) (sym e)
+
 -- an element that was written
 pub put-at : (d : List ℕ) (o n : ℕ) (g : ℕ → ℕ) (i : ℕ) → o ≤ length d → i < n → getD (put d o n g) (o + i) 0 ≡ g i
 unfolding put
@@ -148,6 +152,10 @@ drawn-ext d w h f g e = ap (λ (l : List ℕ). l ++ drop (w * h) d) (block-ext w
 
 pub drawn-length : (d : List ℕ) (w h : ℕ) (f : ℕ → ℕ → ℕ) → w * h ≤ length d → length (drawn d w h f) ≡ length d
 drawn-length d w h f b = ap length (drawn-put d w h f) ∙ put-length d 0 (w * h) (byRows w f) (omega arith)
+
+-- a width that was tested stands for its literal
+pub drawn-wide : {x : List ℕ} {w k : ℕ} (d : List ℕ) (h : ℕ) (f : ℕ → ℕ → ℕ) → x ≡ drawn d k h f → w ≡ k → x ≡ drawn d w h f
+drawn-wide d h f p e = p ∙ ap (λ (m : ℕ). drawn d m h f) (sym e)
 
 -- reading a block back out of the buffer that it was drawn into
 pub drawn-at : (d : List ℕ) (w h : ℕ) (f : ℕ → ℕ → ℕ) (c r : ℕ) → c < w → r < h → getD (drawn d w h f) (r * w + c) 0 ≡ f c r

@@ -4,6 +4,8 @@ ghost use Prim.Native.Nat.{_+_, _*_, _-_, _≤_};
 ghost use lib.ListN.{length, getD};
 ghost use Rattle.grid.specs.Run.{put};
 
+pub mod lanes;
+
 // n bytes of src from p on, written from dst[o] on.
 pub fn copy_run(src: &[u8], p: usize, n: usize, dst: &mut [u8], o: usize)
     requires { ⌜ (p + n ≤ length (now src)) × (o + n ≤ length (now dst)) ⌝ }

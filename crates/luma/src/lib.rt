@@ -6,9 +6,9 @@ ghost use Rattle.place.specs.Refusal.{plainBlockRefusal};
 ghost use Rattle.place.specs.Outcome.{after};
 ghost use Rattle.luma.specs.Luma.{predictedLuma};
 ghost use Rattle.luma.specs.Average.{rowRefusal, rowMean};
+use blend::average;
 use place::coords;
 use place::limits;
-use samples::average;
 
 // The bw by bh block at (x0, y0), moved by the vector in quarter samples, into out by rows.
 pub fn mc_luma(

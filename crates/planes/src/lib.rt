@@ -8,11 +8,11 @@ ghost use Rattle.place.specs.Outcome.{after};
 ghost use Rattle.samples.specs.Tap.{half, centre};
 ghost use Rattle.samples.specs.Kernel.{windowAt};
 ghost use Rattle.planes.specs.Planes.{wide, paddedAt, acrossAt, downAt, centreAt, paddedPlane, padRefusal, buildRefusal};
+use kernels::centre;
+use kernels::halves;
 use place::coords;
 use place::limits;
 use place::tiles;
-use samples::centre;
-use samples::halves;
 
 fn check_pad(len: usize, w: usize, h: usize, pad: usize, out: usize) -> u32
     ensures { λ r. ⌜ r ≡ padRefusal len w h pad out ⌝ }

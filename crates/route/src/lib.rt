@@ -8,11 +8,11 @@ ghost use Rattle.place.specs.Near.{nearArea};
 ghost use Rattle.samples.specs.Phase.{lumaSample};
 ghost use Rattle.samples.specs.Kernel.{windowAt};
 ghost use Rattle.route.specs.Area.{lumaNear, chromaNear, Lies};
+use blend::bilinear;
+use kernels::full;
+use kernels::predict;
 use place::coords;
 use place::tiles;
-use samples::bilinear;
-use samples::full;
-use samples::phases;
 
 // Where a window starts in the buffer, if it can be read there.
 pub struct Spot {
@@ -105,7 +105,7 @@ fn luma_direct(
 {
     let mut a = [0u8; 256];
     let mut b = [0u8; 256];
-    phases::luma_block(src, at, stride, fx, fy, bw, bh, &mut a, &mut b, out);
+    predict::luma_block(src, at, stride, fx, fy, bw, bh, &mut a, &mut b, out);
 }
 
 // The luma block of a phase by way of its clamped tile.
@@ -212,11 +212,11 @@ pub fn predict_luma_with(
         21,
     );
     if s.inside {
-        phases::luma_block(src, s.at, stride, fx, fy, bw, bh, a, b, out);
+        predict::luma_block(src, s.at, stride, fx, fy, bw, bh, a, b, out);
         return;
     }
     tiles::luma_tile_into(tile, src, p, stride, w, h, x, y, bw, bh);
-    phases::luma_block(tile, 0, bw + 5, fx, fy, bw, bh, a, b, out);
+    predict::luma_block(tile, 0, bw + 5, fx, fy, bw, bh, a, b, out);
 }
 
 // The chroma block of a phase by way of its clamped tile.

@@ -1,0 +1,41 @@
+-- `kernels::centre::centre_row` meets its contract: the second pass over a local row of sums, stored. Assumes nothing.
+use mathlib.Core.Path.{refl, _∙_}
+use native.Mathlib.Omega.{arith}
+use borrow.Author.Needs.{needs}
+use denote.Ref.{now}
+use Rattle.grid.proofs.Fill.{put-ext}
+use Rattle.samples.proofs.Rows.{stored}
+use Rattle.kernels.proofs.Sums.{mid-centre, sums-small}
+use Rattle.kernels.proofs.centre.centre_row.Statement.{statement}
+use Rattle.kernels.proofs.centre.centre_row.Tie as tie
+
+mid-lanes-requires : tie.Need-mid-lanes-requires
+mid-lanes-requires c κs =
+    let s = c .before .before .before in
+    let k = s .before .before .before .before .before .before in
+    let a = k .before .args in
+    (sums-small (now (a .t)) (a .p) (a .ts) (k .shared-slice-known .given) _ (s .before .before .before .sums .ensures) (s .sums2 .ensures) refl, omega arith)
+
+returns : tie.Need-returns
+returns c =
+    let m = c .before .before .before .before .before .before in
+    let s = m .before .before .before .before in
+    let k = s .before .before .before .before .before .before in
+    let a = k .before .args in
+    stored _ _ _ _ (c .before .before .store .ensures) (m .mid-lanes .ensures) (omega arith)
+    ∙ put-ext _ _ _ _ _ (λ i h. mid-centre (now (a .t)) (a .p) (a .ts) (k .shared-slice-known .given) _ (s .before .before .before .sums .ensures) (s .sums2 .ensures) refl i (omega arith))
+
+pub centre-row-spec : {M : Type 1} → statement M
+centre-row-spec =
+    tie.close
+    (tie.spec
+    (λ c. search needs)
+    (λ c κs. search needs)
+    (λ c. search needs)
+    (λ c. search needs)
+    (λ c κs. search needs)
+    (λ c. search needs)
+    mid-lanes-requires
+    (λ c κs. search needs)
+    (λ c. search needs)
+    returns)
