@@ -14,8 +14,14 @@ ghost use Rattle.chroma.specs.Chroma.{predictedChroma};
 ghost use Rattle.margins.specs.Margin.{expanded};
 ghost use Rattle.padded.specs.Padded.{paddedLuma, paddedChroma};
 ghost use Rattle.lent.specs.Lent.{Predicted};
+ghost use Rattle.planes.specs.Planes.{wide, paddedAt, acrossAt, downAt, centreAt, paddedPlane, padRefusal, buildRefusal};
+ghost use Rattle.hpel.specs.Served.{blockRefusal};
+ghost use Rattle.hpel.specs.Lookup.{refAt, qpelAt};
+ghost use Rattle.hpel.specs.Reading.{hpelSample};
 ghost use Rattle.edge.specs.Edge.{edgeRefusal, outsideCount, answer};
 use edge::Edges;
+use hpel::HpelAt;
+use hpel::HpelPair;
 use lent::McScratch;
 use margins::Geometry;
 use vectors::MvAnswer;
@@ -199,6 +205,99 @@ pub extern "C" fn inter_mc_chroma_padded_pair(
         ph: ph,
     };
     padded::mc_chroma_padded_pair(pu, pv, g, x0, y0, bw, bh, mvx, mvy, outu, outv)
+}
+
+#[no_mangle]
+pub extern "C" fn inter_pad_plane(src: &[u8], w: usize, h: usize, pad: usize, out: &mut [u8]) -> u32
+    ensures { λ r. ⌜ (r ≡ padRefusal (length (now (src .entry))) w h pad (length (now (out .entry))))
+        × (now (out .exit) ≡ after r (now (out .entry)) (drawn (now (out .entry)) (wide w pad) (wide h pad) (paddedAt (now (src .entry)) w h pad))) ⌝ }
+{
+    planes::pad_plane(src, w, h, pad, out)
+}
+
+#[no_mangle]
+pub extern "C" fn inter_build_hpel_planes(
+    reference: &[u8],
+    cw: usize,
+    ch: usize,
+    pad: usize,
+    f: &mut [u8],
+    h: &mut [u8],
+    v: &mut [u8],
+    c: &mut [u8],
+) -> u32
+    ensures { λ r. ⌜ (r ≡ buildRefusal (length (now (reference .entry))) cw ch pad (length (now (f .entry))) (length (now (h .entry))) (length (now (v .entry))) (length (now (c .entry))))
+        × (now (f .exit) ≡ after r (now (f .entry)) (drawn (now (f .entry)) (wide cw pad) (wide ch pad) (paddedAt (now (reference .entry)) cw ch pad)))
+        × (now (h .exit) ≡ after r (now (h .entry)) (drawn (now (h .entry)) (wide cw pad) (wide ch pad) (acrossAt (paddedPlane (now (reference .entry)) cw ch pad) (wide cw pad) (wide ch pad))))
+        × (now (v .exit) ≡ after r (now (v .entry)) (drawn (now (v .entry)) (wide cw pad) (wide ch pad) (downAt (paddedPlane (now (reference .entry)) cw ch pad) (wide cw pad) (wide ch pad))))
+        × (now (c .exit) ≡ after r (now (c .entry)) (drawn (now (c .entry)) (wide cw pad) (wide ch pad) (centreAt (paddedPlane (now (reference .entry)) cw ch pad) (wide cw pad) (wide ch pad)))) ⌝ }
+{
+    planes::build_hpel_planes(reference, cw, ch, pad, f, h, v, c)
+}
+
+#[no_mangle]
+pub extern "C" fn inter_hpel_ref<'a>(
+    f: &'a [u8],
+    h: &'a [u8],
+    v: &'a [u8],
+    c: &'a [u8],
+    cw: usize,
+    ch: usize,
+    pad: usize,
+    x0: usize,
+    y0: usize,
+    bw: usize,
+    bh: usize,
+    mvx: i32,
+    mvy: i32,
+) -> HpelAt
+    ensures { λ r. ⌜ r ≡ refAt (length (now (f .entry))) (length (now (h .entry))) (length (now (v .entry))) (length (now (c .entry))) cw ch pad x0 y0 bw bh mvx mvy ⌝ }
+{
+    hpel::hpel_ref_at(f, h, v, c, cw, ch, pad, x0, y0, bw, bh, mvx, mvy)
+}
+
+#[no_mangle]
+pub extern "C" fn inter_hpel_qpel_refs<'a>(
+    f: &'a [u8],
+    h: &'a [u8],
+    v: &'a [u8],
+    c: &'a [u8],
+    cw: usize,
+    ch: usize,
+    pad: usize,
+    x0: usize,
+    y0: usize,
+    bw: usize,
+    bh: usize,
+    mvx: i32,
+    mvy: i32,
+) -> HpelPair
+    ensures { λ r. ⌜ r ≡ qpelAt (length (now (f .entry))) (length (now (h .entry))) (length (now (v .entry))) (length (now (c .entry))) cw ch pad x0 y0 bw bh mvx mvy ⌝ }
+{
+    hpel::hpel_qpel_refs_at(f, h, v, c, cw, ch, pad, x0, y0, bw, bh, mvx, mvy)
+}
+
+#[no_mangle]
+pub extern "C" fn inter_hpel_block<'a>(
+    f: &'a [u8],
+    h: &'a [u8],
+    v: &'a [u8],
+    c: &'a [u8],
+    cw: usize,
+    ch: usize,
+    pad: usize,
+    x0: usize,
+    y0: usize,
+    bw: usize,
+    bh: usize,
+    mvx: i32,
+    mvy: i32,
+    out: &mut [u8],
+) -> u32
+    ensures { λ r. ⌜ (r ≡ blockRefusal (length (now (f .entry))) (length (now (h .entry))) (length (now (v .entry))) (length (now (c .entry))) cw ch pad x0 y0 bw bh mvx mvy (length (now (out .entry))))
+        × (now (out .exit) ≡ after r (now (out .entry)) (drawn (now (out .entry)) bw bh (hpelSample (now (f .entry)) (now (h .entry)) (now (v .entry)) (now (c .entry)) cw pad x0 y0 mvx mvy))) ⌝ }
+{
+    hpel::hpel_block(f, h, v, c, cw, ch, pad, x0, y0, bw, bh, mvx, mvy, out)
 }
 
 #[no_mangle]
