@@ -547,7 +547,7 @@ impl Comparison {
     /// Every choice of planes that are one byte short, in every phase, inside and outside.
     fn short_planes(mut self) {
         let frame = Frame { cw: 9, ch: 7, pad: 3 };
-        let mut planes = self.planes(frame, true);
+        let mut planes = self.planes(frame, false);
         for short in 0..16 {
             for (number, plane) in planes.bytes.iter_mut().enumerate() {
                 plane.lend(frame.bytes() - (short >> number & 1));
@@ -663,7 +663,7 @@ compare!(block, "hpel_block", BLOCK, 220);
 #[test]
 fn a_short_output_comes_before_an_unserved_block() {
     let mut block = Comparison::new("hpel_block, short outputs", BLOCK, 230);
-    let planes = block.planes(Frame { cw: 20, ch: 20, pad: 2 }, true);
+    let planes = block.planes(Frame { cw: 20, ch: 20, pad: 2 }, false);
     for (place, bw) in [(3, 4), (3, 5), (-3, 4), (60, 4)] {
         for (fx, fy) in pairs(0..4) {
             for (ix, iy) in [(place, 3), (3, place), (place, place)] {
@@ -682,7 +682,7 @@ fn a_short_output_comes_before_an_unserved_block() {
 #[test]
 fn document_01_serves_126_and_not_130() {
     let mut block = Comparison::new("hpel_block, document 01", BLOCK, 231);
-    let planes = block.planes(Frame { cw: 16, ch: 16, pad: 32 }, true);
+    let planes = block.planes(Frame { cw: 16, ch: 16, pad: 32 }, false);
     for (mvx, served) in
         [(126, Ok(())), (-126, Ok(())), (130, Err(Unserved)), (-130, Err(Unserved))]
     {
@@ -888,8 +888,14 @@ struct Building {
 }
 
 impl Building {
-    fn compare(&mut self, picture: &Twin, frame: Frame, outs: &mut [Twin; 4]) {
+    /// Compares both, with what is lent now. Each finds other bytes, because a plane that is there
+    /// already would hide that it was written.
+    fn compare(&mut self, rng: &mut Rng, picture: &Twin, frame: Frame, outs: &mut [Twin; 4]) {
+        outs[0].fill(rng.next() as u8);
         self.padded.count(compare_padded(picture, frame, &mut outs[0]));
+        for out in &mut *outs {
+            out.fill(rng.next() as u8);
+        }
         self.built.count(compare_built(picture, frame, outs));
     }
 
@@ -916,7 +922,7 @@ fn planes_of_every_pad() {
         for (cw, ch) in [(1, 1), (1, 6), (5, 1), (17, 9)] {
             let frame = Frame { cw, ch, pad };
             let (picture, mut outs) = drawn_build(&mut rng, frame);
-            building.compare(&picture, frame, &mut outs);
+            building.compare(&mut rng, &picture, frame, &mut outs);
         }
     }
     building.finish(&[]);
@@ -931,7 +937,7 @@ fn planes_by_the_rule() {
         let (cw, ch) = rng.sides(24, 9);
         let frame = Frame { cw, ch, pad: rng.within(0, 7) as usize };
         let (picture, mut outs) = drawn_build(&mut rng, frame);
-        building.compare(&picture, frame, &mut outs);
+        building.compare(&mut rng, &picture, frame, &mut outs);
         let ruled = planes_of(picture.ours(), frame);
         let left = outs.iter().zip(&ruled).find(|(out, ruled)| !out.ours().starts_with(ruled));
         assert!(left.is_none(), "the rule was left: {frame:?}");
@@ -953,7 +959,7 @@ fn planes_drawn() {
             1..=3 => shorten(&mut outs[one], &mut rng),
             _ => (),
         }
-        building.compare(&picture, frame, &mut outs);
+        building.compare(&mut rng, &picture, frame, &mut outs);
     }
     building.finish(&[Source, Output]);
 }
@@ -971,7 +977,7 @@ fn planes_each_short() {
         for (at, out) in outs.iter_mut().enumerate() {
             out.lend(length(at as u32, frame.bytes()));
         }
-        building.compare(&picture, frame, &mut outs);
+        building.compare(&mut rng, &picture, frame, &mut outs);
     }
     building.finish(&[Source, Output]);
 }
@@ -991,9 +997,9 @@ fn planes_limits() {
             for out in &mut outs {
                 out.lend(rng.pick(&around(planes, 3)[2..]));
             }
-            building.compare(&source, frame, &mut outs);
+            building.compare(&mut rng, &source, frame, &mut outs);
             outs[rng.pick(&[0, 1, 2, 3])].lend(planes - 1);
-            building.compare(&source, frame, &mut outs);
+            building.compare(&mut rng, &source, frame, &mut outs);
         }
     }
     building.finish(&[Side, Source, Output]);
@@ -1006,7 +1012,7 @@ fn planes_longest() {
     for (cw, ch, pad) in [(8192, 1, 0), (1, 8192, 128), (8192, 3, 128)] {
         let frame = Frame { cw, ch, pad };
         let (picture, mut outs) = drawn_build(&mut rng, frame);
-        building.compare(&picture, frame, &mut outs);
+        building.compare(&mut rng, &picture, frame, &mut outs);
     }
     building.finish(&[]);
 }
