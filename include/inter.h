@@ -214,7 +214,7 @@ uint32_t inter_mc_chroma_padded_pair(
  * call says which it serves. A block that is not served is refused with 6. */
 
 /*
- * Writes the picture of w by h samples inside its margins, as f has it. Writes
+ * Puts the picture of w by h samples inside its margins, as in f. Writes
  * (w + 2 * pad) * (h + 2 * pad) bytes. Refuses with 1, 2 and 5.
  */
 uint32_t inter_pad_plane(

@@ -559,16 +559,12 @@ impl Comparison {
         self.finish(&[Source, Unserved]);
     }
 
-    /// To be called once every answer was found equal: says that all refusals were seen, and which
-    /// phases were served.
+    /// To be called once every answer was found equal: says the counts, and that no refusal and no
+    /// phase that the call serves was left out.
     fn finish(self, refusals: &[Refusal]) {
         let Comparison { name, reader, tally, served, .. } = self;
         tally.finish(refusals);
         let calls: u64 = served.iter().sum();
-        if calls == 0 {
-            say(&format!("{name}: none served"));
-            return;
-        }
         say(&format!("{name}: {calls} served by phase, fx within fy {served:?}"));
         for (fy, fx) in pairs(0..4) {
             let served = served[(fy * 4 + fx) as usize] > 0;
