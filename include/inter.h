@@ -10,7 +10,7 @@
  *
  * Samples are bytes, by rows from the top. A side of a picture is 1..8192 and a position 0..65535;
  * a block may lie outside the picture, whose nearest row or column then stands in. Every vector
- * is served.
+ * is served, except from half-sample planes.
  */
 #ifndef INTER_H
 #define INTER_H
@@ -200,6 +200,143 @@ uint32_t inter_mc_chroma_padded_pair(
     size_t outu_len,
     uint8_t *outv,
     size_t outv_len);
+
+/* ---- Half-sample planes: f is a picture of cw by ch samples inside margins of pad, 0..128, ------
+ * that hold its nearest samples. h, v and c hold the half samples of f at each of its places:
+ * across, half way to the next column; down, half way to the next row; and at the centre. Beyond f
+ * its own nearest row or column stands in. Each plane has (cw + 2 * pad) * (ch + 2 * pad) bytes, no
+ * gap between rows, and all four are lent in that length, read or not.
+ *
+ * Three calls read the planes as lent, whatever they hold. They take a luma block and its vector as
+ * inter_mc_luma does, and serve it where it lies inside the planes with one more column and row
+ * after it: its first column is -pad..cw + pad - bw - 1, its first row -pad..ch + pad - bh - 1. The
+ * phase is full where 4 divides mvx and mvy, quarter where one of them is odd, half otherwise; each
+ * call says which it serves. A block that is not served is refused with 6. */
+
+/*
+ * Puts the picture of w by h samples inside its margins, as in f. Writes
+ * (w + 2 * pad) * (h + 2 * pad) bytes. Refuses with 1, 2 and 5.
+ */
+uint32_t inter_pad_plane(
+    const uint8_t *src,
+    size_t src_len,
+    size_t w,
+    size_t h,
+    size_t pad,
+    uint8_t *out,
+    size_t out_len);
+
+/*
+ * Builds the four planes of a plain picture. Writes the bytes of each; where one is short, none.
+ * Refuses with 1, 2 and 5.
+ */
+uint32_t inter_build_hpel_planes(
+    const uint8_t *reference,
+    size_t reference_len,
+    size_t cw,
+    size_t ch,
+    size_t pad,
+    uint8_t *f,
+    size_t f_len,
+    uint8_t *h,
+    size_t h_len,
+    uint8_t *v,
+    size_t v_len,
+    uint8_t *c,
+    size_t c_len);
+
+/*
+ * Where a block lies: its row y begins at offset + y * stride in plane 0 (f), 1 (h), 2 (v) or
+ * 3 (c). Zeros where refused.
+ */
+typedef struct inter_hpel_at {
+    uint32_t refusal;
+    uint32_t plane;
+    size_t offset;
+    size_t stride;
+} inter_hpel_at;
+
+/*
+ * Finds the block of a full phase, which lies in f, or of a half phase, in h, v or c. Refuses with
+ * 1 to 4 and 6; a quarter phase is not served.
+ */
+inter_hpel_at inter_hpel_ref(
+    const uint8_t *f,
+    size_t f_len,
+    const uint8_t *h,
+    size_t h_len,
+    const uint8_t *v,
+    size_t v_len,
+    const uint8_t *c,
+    size_t c_len,
+    size_t cw,
+    size_t ch,
+    size_t pad,
+    size_t x0,
+    size_t y0,
+    size_t bw,
+    size_t bh,
+    int32_t mvx,
+    int32_t mvy);
+
+/* Where two blocks lie, as above; plane_a is the lower number. Zeros where refused. */
+typedef struct inter_hpel_pair {
+    uint32_t refusal;
+    uint32_t plane_a;
+    uint32_t plane_b;
+    size_t offset_a;
+    size_t offset_b;
+    size_t stride;
+} inter_hpel_pair;
+
+/*
+ * Finds the two blocks whose average, a half rounded up, is the block of a quarter phase. Refuses
+ * with 1 to 4 and 6; a full or half phase is not served.
+ */
+inter_hpel_pair inter_hpel_qpel_refs(
+    const uint8_t *f,
+    size_t f_len,
+    const uint8_t *h,
+    size_t h_len,
+    const uint8_t *v,
+    size_t v_len,
+    const uint8_t *c,
+    size_t c_len,
+    size_t cw,
+    size_t ch,
+    size_t pad,
+    size_t x0,
+    size_t y0,
+    size_t bw,
+    size_t bh,
+    int32_t mvx,
+    int32_t mvy);
+
+/*
+ * Copies the block of a half phase, or averages the two of a quarter phase. Writes bw * bh bytes,
+ * packed by rows. Refuses with 1 to 6; a full phase is not served, nor a quarter phase where bw is
+ * not 4, 8 or 16.
+ */
+uint32_t inter_hpel_block(
+    const uint8_t *f,
+    size_t f_len,
+    const uint8_t *h,
+    size_t h_len,
+    const uint8_t *v,
+    size_t v_len,
+    const uint8_t *c,
+    size_t c_len,
+    size_t cw,
+    size_t ch,
+    size_t pad,
+    size_t x0,
+    size_t y0,
+    size_t bw,
+    size_t bh,
+    int32_t mvx,
+    int32_t mvy,
+    uint8_t *out,
+    size_t out_len);
 
 /* ---- Rows --------------------------------------------------------------------------------- */
 

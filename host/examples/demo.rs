@@ -5,8 +5,8 @@ use std::fmt::Display;
 use std::process::ExitCode;
 
 use inter::{
-    edge_count, expand_plane, mc_chroma, mc_luma, mc_luma_padded, median3, predict_mv, Geometry,
-    Mv, MvNeighbor, Refusal,
+    build_hpel_planes, edge_count, expand_plane, hpel_block, mc_chroma, mc_luma, mc_luma_padded,
+    median3, predict_mv, Geometry, Mv, MvNeighbor, Refusal,
 };
 
 /// A picture of samples, and how many of them make a row.
@@ -79,6 +79,7 @@ fn main() -> ExitCode {
     vectors(&mut table);
     edges(&mut table);
     margins(&mut table);
+    half_samples(&mut table);
     match table.wrong {
         0 => {
             println!("\nAll as the document says.");
@@ -198,4 +199,34 @@ fn margins(table: &mut Table) {
         let case = format!("black with margins left at 255, ix {ix}: {name} byte");
         table.row(&case, says, framed_block(&black, 4 * ix, 0).map(|block| block[at]));
     }
+}
+
+fn half_samples(table: &mut Table) {
+    table.head("16x16 picture, pad 32, 16x16 block by half-sample planes");
+
+    let picture: [u8; 256] = std::array::from_fn(|at| at as u8);
+    let [mut f, mut h, mut v, mut c] = [[0; 80 * 80]; 4];
+    let planes = match build_hpel_planes(&picture, 16, 16, 32, &mut f, &mut h, &mut v, &mut c) {
+        Ok(planes) => planes,
+        Err(refusal) => return table.row("the planes", "built", Err(refusal)),
+    };
+    let block = |mvx, mvy| {
+        let mut out = [0; 256];
+        hpel_block(planes, 0, 0, 16, 16, mvx, mvy, &mut out).map(|()| out)
+    };
+    for (mvx, says) in [(126, "done"), (-126, "done"), (130, "6"), (-130, "6")] {
+        let said = block(mvx, 0).map_or_else(|no| no.number().to_string(), |_| "done".to_string());
+        table.row(&format!("hpel_block, mvx {mvx}"), says.to_string(), Ok(said));
+    }
+
+    let agrees = |(mvx, mvy)| {
+        let mut out = [0; 256];
+        mc_luma(&picture, 16, 16, 0, 0, 16, 16, mvx, mvy, &mut out)?;
+        Ok(block(mvx, mvy)? == out)
+    };
+    let vectors =
+        (-32..=31).flat_map(|ix| (1..16).map(move |phase| (4 * ix + phase % 4, phase / 4)));
+    let agreed: Result<Vec<bool>, Refusal> = vectors.map(agrees).collect();
+    let agreed = agreed.map(|agreed| agreed.into_iter().filter(|&agrees| agrees).count());
+    table.row("ix -32..31, 15 phases: blocks as mc_luma's", 64 * 15, agreed);
 }

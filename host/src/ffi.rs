@@ -53,6 +53,29 @@ pub struct Edges {
     pub count: u32,
 }
 
+/// Where the samples of a block lie in one of four half-sample planes: row y from `offset` +
+/// y·`stride` on in plane 0 (f), 1 (h), 2 (v) or 3 (c). Zeros where `refusal` is not 0.
+#[repr(C)]
+#[derive(Clone, Copy, Debug, PartialEq, Eq)]
+pub struct HpelAt {
+    pub refusal: u32,
+    pub plane: u32,
+    pub offset: usize,
+    pub stride: usize,
+}
+
+/// The same of two planes, whose average is the block. Zeros where `refusal` is not 0.
+#[repr(C)]
+#[derive(Clone, Copy, Debug, PartialEq, Eq)]
+pub struct HpelPair {
+    pub refusal: u32,
+    pub plane_a: u32,
+    pub plane_b: u32,
+    pub offset_a: usize,
+    pub offset_b: usize,
+    pub stride: usize,
+}
+
 /// What `inter_mc_luma_padded_pre` works in. Its bytes say nothing, before a call or after.
 #[repr(C)]
 #[derive(Clone, Debug)]
@@ -228,5 +251,93 @@ unsafe extern "C" {
         outu_len: usize,
         outv: *mut u8,
         outv_len: usize,
+    ) -> u32;
+
+    pub unsafe fn inter_pad_plane(
+        src: *const u8,
+        src_len: usize,
+        w: usize,
+        h: usize,
+        pad: usize,
+        out: *mut u8,
+        out_len: usize,
+    ) -> u32;
+
+    pub unsafe fn inter_build_hpel_planes(
+        reference: *const u8,
+        reference_len: usize,
+        cw: usize,
+        ch: usize,
+        pad: usize,
+        f: *mut u8,
+        f_len: usize,
+        h: *mut u8,
+        h_len: usize,
+        v: *mut u8,
+        v_len: usize,
+        c: *mut u8,
+        c_len: usize,
+    ) -> u32;
+
+    pub unsafe fn inter_hpel_ref(
+        f: *const u8,
+        f_len: usize,
+        h: *const u8,
+        h_len: usize,
+        v: *const u8,
+        v_len: usize,
+        c: *const u8,
+        c_len: usize,
+        cw: usize,
+        ch: usize,
+        pad: usize,
+        x0: usize,
+        y0: usize,
+        bw: usize,
+        bh: usize,
+        mvx: i32,
+        mvy: i32,
+    ) -> HpelAt;
+
+    pub unsafe fn inter_hpel_qpel_refs(
+        f: *const u8,
+        f_len: usize,
+        h: *const u8,
+        h_len: usize,
+        v: *const u8,
+        v_len: usize,
+        c: *const u8,
+        c_len: usize,
+        cw: usize,
+        ch: usize,
+        pad: usize,
+        x0: usize,
+        y0: usize,
+        bw: usize,
+        bh: usize,
+        mvx: i32,
+        mvy: i32,
+    ) -> HpelPair;
+
+    pub unsafe fn inter_hpel_block(
+        f: *const u8,
+        f_len: usize,
+        h: *const u8,
+        h_len: usize,
+        v: *const u8,
+        v_len: usize,
+        c: *const u8,
+        c_len: usize,
+        cw: usize,
+        ch: usize,
+        pad: usize,
+        x0: usize,
+        y0: usize,
+        bw: usize,
+        bh: usize,
+        mvx: i32,
+        mvy: i32,
+        out: *mut u8,
+        out_len: usize,
     ) -> u32;
 }

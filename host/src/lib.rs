@@ -6,11 +6,16 @@
 
 // The calls are inlined where they are used, so that each costs what the C call costs.
 pub mod ffi;
+mod hpel;
 mod padded;
 mod plain;
 mod refusal;
 mod vectors;
 
+pub use hpel::{
+    build_hpel_planes, hpel_block, hpel_qpel_refs, hpel_qpel_refs_at, hpel_ref, hpel_ref_at,
+    pad_plane, HpelPlanes, HpelSpot, View,
+};
 pub use padded::{
     expand_plane, mc_chroma_padded, mc_chroma_padded_pair, mc_luma_padded, mc_luma_padded_pre,
     Geometry, McScratch,

@@ -115,6 +115,7 @@ impl<'a> Reader<'a> {
         let name = self.word();
         self.expect(":");
         let pointer = self.take("&") || self.take("*");
+        self.lifetime();
         let constant = if !pointer || self.take("mut") { "" } else { "const " };
         self.take("const");
         if !self.take("[") {
@@ -132,9 +133,19 @@ impl<'a> Reader<'a> {
         array
     }
 
+    /// A lifetime, if one stands here; C has none.
+    fn lifetime(&mut self) {
+        if self.take("'") {
+            self.word();
+        }
+    }
+
     /// What follows `fn` in Rust and Rattle, put into the boundary.
     fn function(&mut self, boundary: &mut Boundary) {
         let name = self.word();
+        if self.take("<") {
+            self.list(",", ">", Reader::lifetime);
+        }
         self.expect("(");
         let parameters = self.list(",", ")", Reader::variable);
         self.expect("-");
@@ -330,6 +341,12 @@ fn every_slip_is_noticed() {
     noticed(header, "parts[4]", "parts[3]");
     noticed(ffi, "pub available: bool", "pub available: u8");
     noticed(ffi, "#[repr(C)]\n", "");
+    noticed(header, "size_t offset;\n    size_t stride;", "size_t stride;\n    size_t offset;");
+    noticed(ffi, "pub plane: u32", "pub plane: u8");
+    noticed(ffi, "pub offset_a: usize,\n", "");
+    noticed(ffi, "h: *mut u8,\n        h_len: usize,", "h: *const u8,\n        h_len: usize,");
+    noticed(rattle, "v: &'a [u8],\n    c: &'a [u8],", "c: &'a [u8],\n    v: &'a [u8],");
+    noticed(rattle, "-> HpelPair", "-> HpelAt");
     noticed(header, "int32_t inter_median3(int32_t a, int32_t b, int32_t c);", "");
     noticed(ffi, "pub safe fn inter_inter_partitions(mode: u8) -> Partitions;", "");
     noticed(rattle, "#[no_mangle]\n", "");

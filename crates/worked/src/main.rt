@@ -103,6 +103,20 @@ fn filled(name: &[u8], ix: i32) {
     line(name, answer, taps::wide(out[255]) as u32);
 }
 
+// The last byte of the 16 by 16 block of a picture of 77, by way of its half-sample planes with 32 samples around them.
+fn from_planes(name: &[u8], mvx: i32) {
+    let pic = [77u8; 256];
+    let mut f = [0u8; 6400];
+    let mut h = [0u8; 6400];
+    let mut v = [0u8; 6400];
+    let mut c = [0u8; 6400];
+    let built = planes::build_hpel_planes(&pic, 16, 16, 32, &mut f, &mut h, &mut v, &mut c);
+    let mut out = [0u8; 256];
+    let answer = hpel::hpel_block(&f, &h, &v, &c, 16, 16, 32, 0, 0, 16, 16, mvx, 0, &mut out);
+    line(name, built, taps::wide(h[0]) as u32);
+    line(name, answer, taps::wide(out[255]) as u32);
+}
+
 fn blacken(buf: &mut [u8])
     requires { ⌜ 6400 ≤ length (now buf) ⌝ }
 {
@@ -184,6 +198,10 @@ fn main() {
     filled(b"margins filled, column -30", -120);
     filled(b"margins filled, column 29", 116);
     filled(b"margins filled, column 30", 120);
+    from_planes(b"half-sample planes by (126,0): served", 126);
+    from_planes(b"half-sample planes by (-126,0): served", -126);
+    from_planes(b"half-sample planes by (130,0): not served", 130);
+    from_planes(b"half-sample planes by (-130,0): not served", -130);
     luma(b"side 0", &r, 0, 1, 0, 0, 0, 0);
     luma(b"source one short", &r, 7, 1, 0, 0, 0, 0);
     luma(b"position 65536", &r, 6, 1, 65536, 0, 0, 0);

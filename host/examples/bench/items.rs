@@ -1,9 +1,10 @@
 //! What is measured: each call with its arguments, in each library.
 
+use std::cell::RefCell;
 use std::hint::black_box;
 
 use inter as ours;
-use inter::Geometry;
+use inter::{Geometry, HpelPlanes};
 use oracle::inter as scalar;
 #[cfg(simd)]
 use simd::inter as simd;
@@ -249,6 +250,146 @@ fn expand_plane(g: Geometry) -> Item {
     }
 }
 
+type Build = fn(&[u8], usize, usize, usize);
+const NO_BUILD: Build = |_, _, _, _| ();
+
+/// The half-sample planes of a plane built. The Rust returns planes of its own, so nothing is lent
+/// and ours writes to its own too; that all are the same is tested here.
+fn build_hpel_planes(plane: Plane, pad: usize) -> Item {
+    let Plane { samples, w, h } = plane;
+    let mut planes = [(); 4].map(|()| vec![0xa5; (w + 2 * pad) * (h + 2 * pad)]);
+    build_ours(plane, pad, &mut planes);
+    let built = scalar::build_hpel_planes(samples, w, h, pad);
+    assert!(planes == [built.f, built.h, built.v, built.c], "the planes differ");
+    #[cfg(simd)]
+    {
+        let built = simd::build_hpel_planes(samples, w, h, pad);
+        assert!(planes == [built.f, built.h, built.v, built.c], "the planes differ");
+    }
+    let planes = RefCell::new(planes);
+    Item {
+        group: "build_hpel_planes".to_string(),
+        name: format!("build_hpel_planes {w}x{h} pad {pad}"),
+        lent: Vec::new(),
+        calls: Calls {
+            by_library: Vec::from([
+                call!(build_ours, |build, _lent| build(plane, pad, &mut planes.borrow_mut())),
+                call!(scalar::build_hpel_planes, |build, _lent| build(samples, w, h, pad)),
+                #[cfg(simd)]
+                call!(simd::build_hpel_planes, |build, _lent| build(samples, w, h, pad)),
+            ]),
+            nothing: call!(black_box(NO_BUILD), |build, _lent| build(samples, w, h, pad)),
+        },
+    }
+}
+
+fn build_ours(plane: Plane, pad: usize, [f, h, v, c]: &mut [Vec<u8>; 4]) {
+    ours::build_hpel_planes(plane.samples, plane.w, plane.h, pad, f, h, v, c).expect("built");
+}
+
+/// The half-sample planes of a plane, as each library takes them.
+#[derive(Clone, Copy)]
+struct Half {
+    ours: HpelPlanes<'static>,
+    scalar: &'static scalar::HpelPlanes,
+    #[cfg(simd)]
+    simd: &'static simd::HpelPlanes,
+}
+
+impl Half {
+    fn new(plane: Plane, pad: usize) -> Half {
+        let Plane { samples, w, h } = plane;
+        let built: &scalar::HpelPlanes =
+            Box::leak(Box::new(scalar::build_hpel_planes(samples, w, h, pad)));
+        let scalar::HpelPlanes { f, h: across, v, c, .. } = built;
+        Half {
+            ours: HpelPlanes { f, h: across, v, c, cw: w, ch: h, pad },
+            scalar: built,
+            #[cfg(simd)]
+            simd: Box::leak(Box::new(simd::build_hpel_planes(samples, w, h, pad))),
+        }
+    }
+}
+
+/// The function, called with the planes that it takes.
+macro_rules! on_planes {
+    ($function:expr, $planes:expr, |$call:ident, $p:ident, $lent:ident| $body:expr) => {{
+        let $p = $planes;
+        call!($function, |$call, $lent| $body)
+    }};
+}
+
+/// The function of that name in each library. Ours and the Rust's may answer in their own ways.
+macro_rules! half {
+    ($name:ident, $nothing:ident, $half:expr, |$call:ident, $p:ident, $lent:ident| $same:expr) => {
+        half!($name, $nothing, $half, |$call, $p, $lent| $same, $same)
+    };
+    (
+        $name:ident, $nothing:ident, $half:expr,
+        |$call:ident, $p:ident, $lent:ident| $ours:expr, $rust:expr
+    ) => {
+        Calls {
+            by_library: Vec::from([
+                on_planes!(ours::$name, $half.ours, |$call, $p, $lent| $ours),
+                on_planes!(scalar::$name, $half.scalar, |$call, $p, $lent| $rust),
+                #[cfg(simd)]
+                on_planes!(simd::$name, $half.simd, |$call, $p, $lent| $rust),
+            ]),
+            nothing: on_planes!(black_box($nothing), $half.scalar, |$call, $p, $lent| $rust),
+        }
+    };
+}
+
+type HalfBlock = fn(&scalar::HpelPlanes, usize, usize, usize, usize, i32, i32, &mut [u8]);
+const NO_HALF_BLOCK: HalfBlock = |_, _, _, _, _, _, _, _| ();
+
+/// A block copied or averaged from half-sample planes.
+fn hpel_block(half: Half, block: Block) -> Item {
+    let Block { side, x0, y0, phase: (mvx, mvy) } = block;
+    let calls = half!(hpel_block, NO_HALF_BLOCK, half, |predict, p, out| predict(
+        p, x0, y0, side, side, mvx, mvy, out
+    ));
+    block.item("hpel_block", "", calls)
+}
+
+type One = (&'static [u8], usize, usize);
+type FindOne = fn(&'static scalar::HpelPlanes, usize, usize, usize, usize, i32, i32) -> Option<One>;
+const NO_ONE: FindOne = |_, _, _, _, _, _, _| None;
+
+/// A block found in half-sample planes, of which the first sample is read.
+fn hpel_ref(half: Half, block: Block) -> Item {
+    let Block { side, x0, y0, phase: (mvx, mvy) } = block;
+    let calls = half!(
+        hpel_ref,
+        NO_ONE,
+        half,
+        |find, p, out| find(p, x0, y0, side, side, mvx, mvy).map(|view| out[0] = view.samples[0]),
+        find(p, x0, y0, side, side, mvx, mvy).map(|(plane, base, _)| out[0] = plane[base])
+    );
+    Item { lent: vec![0xa5], ..block.item("hpel_ref", "", calls) }
+}
+
+type Two = (&'static [u8], usize, &'static [u8], usize, usize);
+type FindTwo = fn(&'static scalar::HpelPlanes, usize, usize, usize, usize, i32, i32) -> Option<Two>;
+const NO_TWO: FindTwo = |_, _, _, _, _, _, _| None;
+
+/// The two blocks of a quarter phase found, of which the first samples are read.
+fn hpel_qpel_refs(half: Half, block: Block) -> Item {
+    let Block { side, x0, y0, phase: (mvx, mvy) } = block;
+    let calls = half!(
+        hpel_qpel_refs,
+        NO_TWO,
+        half,
+        |find, p, out| find(p, x0, y0, side, side, mvx, mvy).map(|[a, b]| {
+            (out[0], out[1]) = (a.samples[0], b.samples[0]);
+        }),
+        find(p, x0, y0, side, side, mvx, mvy).map(|(a, at_a, b, at_b, _)| {
+            (out[0], out[1]) = (a[at_a], b[at_b]);
+        })
+    );
+    Item { lent: vec![0xa5; 2], ..block.item("hpel_qpel_refs", "", calls) }
+}
+
 type Average = fn(&[u8], &[u8], usize, &mut [u8]);
 const NO_AVERAGE: Average = |_, _, _, _| ();
 
@@ -270,6 +411,9 @@ fn luma_phases() -> impl Iterator<Item = (i32, i32)> {
 
 const LUMA_EDGES: [(usize, (i32, i32)); 6] =
     [(16, (0, 0)), (16, (2, 2)), (8, (0, 0)), (8, (2, 2)), (4, (0, 0)), (4, (2, 2))];
+
+/// Three that are copied, and four that are averaged.
+const HALF_PHASES: [(i32, i32); 7] = [(2, 0), (0, 2), (2, 2), (1, 0), (1, 1), (3, 2), (3, 3)];
 
 const CHROMA_PHASES: [(i32, i32); 4] = [(0, 0), (4, 0), (0, 4), (3, 5)];
 
@@ -295,23 +439,32 @@ pub fn all() -> Vec<Item> {
     }
 
     let (cw, ch, cpad) = (w / 2, h / 2, pad / 2);
-    let (half, half_padded) = (Plane::new(cw, ch), Padded::new(cw, ch, cpad));
+    let (chroma, chroma_padded) = (Plane::new(cw, ch), Padded::new(cw, ch, cpad));
     for side in [8, 4, 2] {
         let blocks = CHROMA_PHASES.map(|phase| Block::inside(side, phase));
-        items.extend(blocks.map(|block| mc_chroma("", half, block)));
+        items.extend(blocks.map(|block| mc_chroma("", chroma, block)));
     }
-    items.push(mc_chroma(" edge", half, Block::over_edge(cw, ch, 8, (3, 5))));
+    items.push(mc_chroma(" edge", chroma, Block::over_edge(cw, ch, 8, (3, 5))));
     for side in [8, 4, 2] {
         let blocks = CHROMA_PHASES.map(|phase| Block::inside(side, phase));
-        items.extend(blocks.map(|block| mc_chroma_padded("", half_padded, block)));
+        items.extend(blocks.map(|block| mc_chroma_padded("", chroma_padded, block)));
     }
     let block = Block::over_edge(cw + cpad, ch + cpad, 8, (3, 5));
-    items.push(mc_chroma_padded(" edge", half_padded, block));
+    items.push(mc_chroma_padded(" edge", chroma_padded, block));
 
     for side in [8, 4, 2] {
         let blocks = CHROMA_PHASES.map(|phase| Block::inside(side, phase));
-        items.extend(blocks.map(|block| mc_chroma_padded_pair(half_padded, block)));
+        items.extend(blocks.map(|block| mc_chroma_padded_pair(chroma_padded, block)));
     }
+
+    let half = Half::new(plane, pad);
+    for side in [16, 8, 4] {
+        let blocks = HALF_PHASES.map(|phase| Block::inside(side, phase));
+        items.extend(blocks.map(|block| hpel_block(half, block)));
+    }
+    items.push(hpel_ref(half, Block::inside(16, (2, 2))));
+    items.push(hpel_qpel_refs(half, Block::inside(16, (3, 3))));
+    items.push(build_hpel_planes(plane, pad));
 
     items.push(expand_plane(padded.g));
     items.push(avg_row_into(plane));

@@ -3,6 +3,7 @@
 use inter::{Geometry, Refusal};
 
 use super::block::{Block, Kind};
+use super::hpel::Frame;
 use super::plane::rows;
 
 /// Two numbers far outside every range; the first times itself is 0 in 64 bits.
@@ -44,6 +45,21 @@ pub fn geometry(g: Geometry) -> (Refusal, bool) {
 /// Refusal 2, of a source that must hold a picture with margins.
 pub fn padded_source(len: usize, g: Geometry) -> (Refusal, bool) {
     source(len, g.stride, rows(g))
+}
+
+/// Refusal 1, of a picture and the margins that half-sample planes give it.
+pub fn frame_side(frame: Frame) -> (Refusal, bool) {
+    (Refusal::Side, side(frame.cw, frame.ch).1 || frame.pad > 128)
+}
+
+/// Refusal 2, of a half-sample plane.
+pub fn plane_source(len: usize, frame: Frame) -> (Refusal, bool) {
+    source(len, frame.wide(), frame.high())
+}
+
+/// Refusal 5, of an output that must hold such a plane.
+pub fn plane_output(len: usize, frame: Frame) -> (Refusal, bool) {
+    output(len, frame.wide(), frame.high())
 }
 
 /// Refusal 3.

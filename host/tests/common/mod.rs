@@ -4,6 +4,7 @@
 #![allow(dead_code)]
 
 pub mod block;
+pub mod hpel;
 pub mod limits;
 pub mod plane;
 pub mod tally;
