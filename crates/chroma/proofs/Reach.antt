@@ -1,32 +1,19 @@
 -- Reach: what `mc_chroma` gives depends on the picture's clamped window alone, and its refusal on lengths and numbers only. Assumes nothing.
-use mathlib.Core.Path.{_≡_, refl, sym, ap, ap₂, _∙_}
+use mathlib.Core.Path.{_≡_, sym, ap, _∙_}
 use mathlib.Core.List.{List}
 use Prim.Native.Nat.{ℕ, _+_, _<_}
-use native.Mathlib.Nat.{zero-add}
 use native.Mathlib.Omega.{arith}
-use lib.IntN.{ℤ, pos, _+ℤ_, +ℤ-assoc}
+use lib.IntN.{ℤ, pos, _+ℤ_}
 use lib.ListN.{length}
 use denote.Ref.{RefT, now}
 use contract.Lifetimes.{Lfts}
-use Rattle.grid.specs.Block.{drawn}
-use Rattle.grid.proofs.Fill.{drawn-ext}
 use Rattle.place.specs.Place.{floorZ, chromaPlace, phase}
 use Rattle.place.specs.Picture.{sampleAt, corner}
 use Rattle.place.specs.Refusal.{plainBlockRefusal}
-use Rattle.place.specs.Outcome.{after}
+use Rattle.place.proofs.Reach.{part-agrees, written}
 use Rattle.samples.proofs.Reach.{chroma-four}
 use Rattle.chroma.specs.Chroma.{predictedChroma}
 use Rattle.chroma.proofs.mc_chroma.Reads as reads
-
--- c places on, then i more
-on : (z : ℤ) (c i : ℕ) → z +ℤ pos c +ℤ pos i ≡ z +ℤ pos 0 +ℤ pos (c + i)
-on z c i = +ℤ-assoc z (pos c) (pos i) ∙ ap (λ (n : ℕ). z +ℤ pos n) (sym (zero-add (c + i))) ∙ sym (+ℤ-assoc z (pos 0) (pos (c + i)))
-
--- the window of the sample in column c and row r is a part of the block's
-part : (pic : List ℕ) (w h x0 y0 : ℕ) (mvx mvy : ℤ) (c r i j : ℕ)
-    → corner pic w h (chromaPlace x0 mvx c) (chromaPlace y0 mvy r) i j ≡ corner pic w h (chromaPlace x0 mvx 0) (chromaPlace y0 mvy 0) (c + i) (r + j)
-unfolding corner chromaPlace
-part pic w h x0 y0 mvx mvy c r i j = ap₂ (λ (x y : ℤ). sampleAt pic w h x y) (on (pos x0 +ℤ floorZ mvx 8) c i) (on (pos y0 +ℤ floorZ mvy 8) r j)
 
 -- two pictures of w by h agree on the clamped bw + 1 by bh + 1 window of a block
 abbrev pub Agree : (pic pic′ : List ℕ) (w h x0 y0 bw bh : ℕ) (mvx mvy : ℤ) → Type 0
@@ -36,10 +23,10 @@ Agree pic pic′ w h x0 y0 bw bh mvx mvy =
 
 pub chroma-reach : (pic pic′ : List ℕ) (w h x0 y0 bw bh : ℕ) (mvx mvy : ℤ) → Agree pic pic′ w h x0 y0 bw bh mvx mvy
     → (c r : ℕ) → c < bw → r < bh → predictedChroma pic w h x0 y0 mvx mvy c r ≡ predictedChroma pic′ w h x0 y0 mvx mvy c r
-unfolding predictedChroma
+unfolding predictedChroma corner chromaPlace
 chroma-reach pic pic′ w h x0 y0 bw bh mvx mvy e c r a b =
     chroma-four (phase mvx 8) (phase mvy 8) _ _ (λ i j k l.
-    part pic w h x0 y0 mvx mvy c r i j ∙ e (c + i) (r + j) (omega arith) (omega arith) ∙ sym (part pic′ w h x0 y0 mvx mvy c r i j))
+    part-agrees (λ x y. sampleAt pic w h x y) (λ x y. sampleAt pic′ w h x y) (pos x0 +ℤ floorZ mvx 8) (pos y0 +ℤ floorZ mvy 8) (bw + 1) (bh + 1) e c r i j (omega arith) (omega arith))
 
 -- OF THE CALL: the same arguments but for the picture, of one length: one answer, and the same bytes where the windows agree
 abbrev Rest : Type 0
@@ -56,7 +43,4 @@ module _ (κs : Lfts 2) (pic pic′ : RefT (List ℕ)) (w h x0 y0 bw bh : ℕ) (
       → (p q : ℕ) (s t : RefT (List ℕ) × Rest) → reads.Post κs (pic, rest) p s → reads.Post κs (pic′, rest) q t
       → now (s .1 .1 .1 .1 .1 .1 .1 .1 .1 .0) ≡ now (t .1 .1 .1 .1 .1 .1 .1 .1 .1 .0)
   mc-chroma-reach e p q s t a b =
-      a .1
-      ∙ ap₂ (λ (n : ℕ) (l : List ℕ). after n (now out) l) (mc-chroma-refusal p q s t a b)
-      (drawn-ext (now out) bw bh _ _ (chroma-reach (now pic) (now pic′) w h x0 y0 bw bh mvx mvy e))
-      ∙ sym (b .1)
+      written (now out) bw bh _ _ (mc-chroma-refusal p q s t a b) (chroma-reach (now pic) (now pic′) w h x0 y0 bw bh mvx mvy e) (a .1) (b .1)

@@ -1,7 +1,7 @@
 -- Document 01, "Edge count": how many positions of a block lie outside the picture. Assumes nothing.
 use mathlib.Core.Bool.{Bool, cond, _||_}
-use mathlib.Core.List.{List, [], _∷_}
-use Prim.Native.Nat.{ℕ, zero, suc, _+_, _*_, _/_, _%_}
+use mathlib.Core.List.{[], _∷_}
+use Prim.Native.Nat.{ℕ, zero, suc, _*_, _/_, _%_}
 use lib.IntN.{ℤ, pos}
 use lib.Signed.{leZ, ltZ}
 use Rattle.place.specs.Place.{lumaPlace}

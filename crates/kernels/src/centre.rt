@@ -1,6 +1,6 @@
 // The centre j: a row of twenty-one unrounded sums down, then the six-tap across them.
 ghost use mathlib.Core.Path.{_≡_};
-ghost use Prim.Native.Nat.{ℕ, _+_, _*_, _-_, _<_, _≤_};
+ghost use Prim.Native.Nat.{ℕ, _+_, _*_, _<_, _≤_};
 ghost use lib.ListN.{length, getD};
 ghost use Rattle.grid.specs.Block.{drawn};
 ghost use Rattle.grid.specs.Run.{put, from};

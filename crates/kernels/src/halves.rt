@@ -1,7 +1,7 @@
 // Half samples across and down: blocks of bw by bh, read with any stride.
 ghost use mathlib.Core.Path.{_≡_};
 ghost use Prim.Native.Nat.{_+_, _*_, _-_, _≤_};
-ghost use lib.ListN.{length, getD};
+ghost use lib.ListN.{length};
 ghost use Rattle.grid.specs.Block.{drawn};
 ghost use Rattle.grid.specs.Run.{put, from};
 ghost use Rattle.samples.specs.Tap.{half};

@@ -19,12 +19,12 @@ use Rattle.route.specs.Area.{lumaNear}
 use Rattle.luma.specs.Luma.{predictedLuma}
 use Rattle.luma.specs.Average.{rowMean}
 
-module _ (pic : List ℕ) (w h x0 y0 : ℕ) (mvx mvy : ℤ) (p : mag mvx < 2 ^ 31) (q : mag mvy < 2 ^ 31) where
-  pub near-predicted : {x y fx fy : ℕ} → x ≡ x0 + up (2 ^ 31) mvx / 4 → y ≡ y0 + up (2 ^ 31) mvy / 4 → fx ≡ phase mvx 4 → fy ≡ phase mvy 4
-      → (c r : ℕ) → lumaNear pic 0 w w h x y fx fy c r ≡ predictedLuma pic w h x0 y0 mvx mvy c r
-  unfolding lumaNear predictedLuma
-  near-predicted ex ey efx efy c r =
-      rw (ex, ey, efx, efy) (luma-six 255 _ _ (λ i j _ _. sym (window-is pic w h x0 y0 mvx mvy c r i j p q)) (phase mvx 4) (phase mvy 4))
+pub near-predicted : (out pic : List ℕ) (w h x0 y0 bw bh : ℕ) (mvx mvy : ℤ) → mag mvx < 2 ^ 31 → mag mvy < 2 ^ 31
+    → {x y fx fy : ℕ} → x ≡ x0 + up (2 ^ 31) mvx / 4 → y ≡ y0 + up (2 ^ 31) mvy / 4 → fx ≡ phase mvx 4 → fy ≡ phase mvy 4
+    → drawn out bw bh (lumaNear pic 0 w w h x y fx fy) ≡ drawn out bw bh (predictedLuma pic w h x0 y0 mvx mvy)
+unfolding lumaNear predictedLuma
+near-predicted out pic w h x0 y0 bw bh mvx mvy p q ex ey efx efy =
+    drawn-ext out bw bh _ _ (λ c r _ _. rw (ex, ey, efx, efy) (luma-six 255 _ _ (λ i j _ _. sym (window-is pic w h x0 y0 mvx mvy c r i j p q)) (phase mvx 4) (phase mvy 4)))
 
 -- a run from the start is a block of one row
 pub run-row : (d a b : List ℕ) (w : ℕ) → put d 0 w (λ i. mean (getD a (0 + i) 0) (getD b (0 + i) 0)) ≡ drawn d w 1 (rowMean a b)

@@ -8,10 +8,10 @@ use native.Mathlib.Omega.{arith}
 use lib.ListN.{length, getD, take, drop, length-append, List·getD-append}
 use lib.Seq.{length-take-le, getD-append-add, getD-drop, getD-take, ext-getD}
 use Rattle.signed.proofs.Diff.{lt-or-le}
-use Rattle.grid.specs.Block.{tab, byRows, block, drawn}
+use Rattle.grid.specs.Block.{tab, byRows}
 use Rattle.grid.specs.Run.{put}
 use Rattle.grid.proofs.Loop.{Filled}
-use Rattle.grid.proofs.Fill.{tab-length, put-length, put-at, put-zero, put-put, byRows-at, block-length}
+use Rattle.grid.proofs.Fill.{tab-length, put-length, put-at, put-zero, put-put, byRows-at}
 
 module _ (d : List ℕ) (o n : ℕ) (g : ℕ → ℕ) (room : o + n ≤ length d) where
   head : length (take o d ++ tab n g) ≡ o + n
@@ -51,17 +51,6 @@ module _ (d : List ℕ) (o n : ℕ) (g : ℕ → ℕ) (room : o + n ≤ length d
       (λ (k : o + n ≤ i). after i k ∙ sym (put-after i k))
       (lt-or-le i (o + n)))
       (lt-or-le i o))
-
--- what lies after a block that was drawn
-pub drawn-later : (d : List ℕ) (w h : ℕ) (f : ℕ → ℕ → ℕ) (i : ℕ) → w * h ≤ i → getD (drawn d w h f) i 0 ≡ getD d i 0
-unfolding drawn
-drawn-later d w h f i b =
-    let k : i ≡ length (block w h f) + (i - w * h) = omega (arith, block-length w h f) in
-    let e : w * h + (i - w * h) ≡ i = omega arith in
-    ap (λ (j : ℕ). getD (block w h f ++ drop (w * h) d) j 0) k
-    ∙ getD-append-add (block w h f) (drop (w * h) d) (i - w * h) 0
-    ∙ getD-drop (w * h) d (i - w * h) 0
-    ∙ ap (λ (j : ℕ). getD d j 0) e
 
 -- d is d₀ with the first r of the h rows of f, each w wide, written from o on
 pub record RowsAt (d₀ : List ℕ) (o w h : ℕ) (f : ℕ → ℕ → ℕ) (r : ℕ) (d : List ℕ) : Type 0 where

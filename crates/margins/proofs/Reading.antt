@@ -5,15 +5,13 @@ use mathlib.Core.Logic.{_⊎_, ⊎-elim}
 use Prim.Native.Nat.{ℕ, _+_, _*_, _≤_, _<_}
 use native.Mathlib.Omega.{arith}
 use lib.IntN.{pos, _-ℤ_}
-use lib.ListN.{length, getD}
 use Rattle.signed.proofs.Linear.{diff, linear, diff-pos, diff-same}
 use Rattle.grid.specs.Block.{sample}
-use Rattle.grid.proofs.Fill.{drawn-length, drawn-sample}
+use Rattle.grid.proofs.Fill.{drawn-sample}
 use Rattle.place.specs.Place.{clampZ}
 use Rattle.place.specs.Near.{near}
 use Rattle.place.proofs.CoordLaws.{clamp-sub}
 use Rattle.margins.specs.Margin.{fromCol, fromRow, expanded, interior}
-use Rattle.margins.proofs.Put.{drawn-later}
 use Rattle.margins.proofs.Margin.{col-in, col-gap}
 
 -- the place of a buffer's column or row in the picture, clamped
@@ -39,12 +37,3 @@ module _ (buf : List ℕ) (stride pad w h : ℕ) where
       let r : fromRow pad h y ≡ y = omega arith in
       let q : fromCol pad w x ≡ x = ⊎-elim (λ p. col-in pad w x (omega arith) ∙ omega arith) (λ p. col-gap pad w x p) here in
       drawn-sample buf stride (h + 2 * pad) _ x y a (omega arith) ∙ ap₂ (sample buf stride) q r
-
-  -- and so are the bytes past the rows
-  pub later : (i : ℕ) → stride * (h + 2 * pad) ≤ i → getD (expanded buf stride pad w h) i 0 ≡ getD buf i 0
-  unfolding expanded
-  later i b = drawn-later buf stride (h + 2 * pad) _ i b
-
-  pub expanded-length : stride * (h + 2 * pad) ≤ length buf → length (expanded buf stride pad w h) ≡ length buf
-  unfolding expanded
-  expanded-length room = drawn-length buf stride (h + 2 * pad) _ room

@@ -1,18 +1,14 @@
 -- Reach: what the padded routes give depends on the block's window, read by the rule, alone, and their refusals on lengths and numbers only. Assumes nothing.
-use mathlib.Core.Path.{_≡_, sym, ap, ap₂, _∙_}
-use mathlib.Core.Bool.{Bool}
+use mathlib.Core.Path.{_≡_}
 use mathlib.Core.List.{List}
 use Prim.Native.Nat.{ℕ, _+_, _<_}
-use native.Mathlib.Nat.{zero-add}
 use native.Mathlib.Omega.{arith}
-use lib.IntN.{ℤ, pos, _+ℤ_, _-ℤ_, +ℤ-assoc}
+use lib.IntN.{ℤ, pos, _+ℤ_, _-ℤ_}
 use lib.ListN.{length}
 use denote.Ref.{RefT, now}
 use contract.Lifetimes.{Lfts}
-use Rattle.grid.specs.Block.{drawn}
-use Rattle.grid.proofs.Fill.{drawn-ext}
 use Rattle.place.specs.Place.{floorZ, lumaPlace, chromaPlace, phase}
-use Rattle.place.specs.Outcome.{after}
+use Rattle.place.proofs.Reach.{part-agrees, written}
 use Rattle.samples.proofs.Reach.{luma-six, chroma-four}
 use Rattle.margins.specs.declared.Geometry.{Geometry}
 use Rattle.padded.specs.Padded.{lumaDirect, chromaDirect, readAt, paddedLuma, paddedChroma}
@@ -21,16 +17,6 @@ use Rattle.padded.proofs.mc_luma_padded_slices.Reads as slices
 use Rattle.padded.proofs.mc_chroma_padded.Reads as chroma
 use Rattle.padded.proofs.mc_chroma_padded_pair.Reads as pair
 use Rattle.padded.proofs.Only.{Numbers, Block, Lent, Two, out, outu, outv}
-
--- c places on, then i more
-on : (z : ℤ) (c i : ℕ) → z +ℤ pos c +ℤ pos i ≡ z +ℤ pos 0 +ℤ pos (c + i)
-on z c i = +ℤ-assoc z (pos c) (pos i) ∙ ap (λ (n : ℕ). z +ℤ pos n) (sym (zero-add (c + i))) ∙ sym (+ℤ-assoc z (pos 0) (pos (c + i)))
-
--- the window of the sample in column c and row r is a part of the block's; f shifts a place
-part : (g : Geometry) (d : Bool) (t : List ℕ) (f : ℤ → ℤ) (u v : ℤ) (c r i j : ℕ)
-    → readAt d t (g .stride) (g .pad) (g .pw) (g .ph) (f (u +ℤ pos c +ℤ pos i)) (f (v +ℤ pos r +ℤ pos j))
-    ≡ readAt d t (g .stride) (g .pad) (g .pw) (g .ph) (f (u +ℤ pos 0 +ℤ pos (c + i))) (f (v +ℤ pos 0 +ℤ pos (r + j)))
-part g d t f u v c r i j = ap₂ (λ (x y : ℤ). readAt d t (g .stride) (g .pad) (g .pw) (g .ph) (f x) (f y)) (on u c i) (on v r j)
 
 module _ (g : Geometry) (x0 y0 bw bh : ℕ) (mvx mvy : ℤ) where
   -- the sample of the block's window in column i and row j, read by the rule
@@ -59,23 +45,14 @@ module _ (g : Geometry) (x0 y0 bw bh : ℕ) (mvx mvy : ℤ) where
   luma-reach : (buf buf′ : List ℕ) → LumaAgree buf buf′ → (c r : ℕ) → c < bw → r < bh → lumaAt buf c r ≡ lumaAt buf′ c r
   unfolding paddedLuma lumaPlace
   luma-reach buf buf′ e c r a b =
-      let u = pos x0 +ℤ floorZ mvx 4 in
-      let v = pos y0 +ℤ floorZ mvy 4 in
-      luma-six 255 _ _ (λ i j k l.
-      part g _ buf (λ z. z -ℤ pos 2) u v c r i j ∙ e (c + i) (r + j) (omega arith) (omega arith) ∙ sym (part g _ buf′ (λ z. z -ℤ pos 2) u v c r i j)) (phase mvx 4) (phase mvy 4)
+      let read : List ℕ → ℤ → ℤ → ℕ = λ t x y. readAt (lumaDirect (g .pw) (g .ph) (g .pad) x0 y0 bw bh mvx mvy) t (g .stride) (g .pad) (g .pw) (g .ph) (x -ℤ pos 2) (y -ℤ pos 2) in
+      luma-six 255 _ _ (λ i j k l. part-agrees (read buf) (read buf′) (pos x0 +ℤ floorZ mvx 4) (pos y0 +ℤ floorZ mvy 4) (bw + 5) (bh + 5) e c r i j (omega arith) (omega arith)) (phase mvx 4) (phase mvy 4)
 
   chroma-reach : (buf buf′ : List ℕ) → ChromaAgree buf buf′ → (c r : ℕ) → c < bw → r < bh → chromaAt buf c r ≡ chromaAt buf′ c r
   unfolding paddedChroma chromaPlace
   chroma-reach buf buf′ e c r a b =
-      let u = pos x0 +ℤ floorZ mvx 8 in
-      let v = pos y0 +ℤ floorZ mvy 8 in
-      chroma-four (phase mvx 8) (phase mvy 8) _ _ (λ i j k l.
-      part g _ buf (λ z. z) u v c r i j ∙ e (c + i) (r + j) (omega arith) (omega arith) ∙ sym (part g _ buf′ (λ z. z) u v c r i j))
-
--- the same answer, and the same bytes of one block: the same contents
-written : {p q : ℕ} (old : List ℕ) (bw bh : ℕ) (f f′ : ℕ → ℕ → ℕ) {s t : List ℕ} → p ≡ q → ((c r : ℕ) → c < bw → r < bh → f c r ≡ f′ c r)
-    → s ≡ after p old (drawn old bw bh f) → t ≡ after q old (drawn old bw bh f′) → s ≡ t
-written old bw bh f f′ e k a b = a ∙ ap₂ (λ (n : ℕ) (l : List ℕ). after n old l) e (drawn-ext old bw bh f f′ k) ∙ sym b
+      let read : List ℕ → ℤ → ℤ → ℕ = λ t. readAt (chromaDirect (g .pw) (g .ph) (g .pad) x0 y0 bw bh mvx mvy) t (g .stride) (g .pad) (g .pw) (g .ph) in
+      chroma-four (phase mvx 8) (phase mvy 8) _ _ (λ i j k l. part-agrees (read buf) (read buf′) (pos x0 +ℤ floorZ mvx 8) (pos y0 +ℤ floorZ mvy 8) (bw + 1) (bh + 1) e c r i j (omega arith) (omega arith))
 
 -- OF THE CALLS: the same arguments but for the planes, of one length each: one answer, and the same bytes where the windows agree
 module _ (g : Geometry) (x0 y0 bw bh : ℕ) (mvx mvy : ℤ) (buf buf′ o : RefT (List ℕ)) (same : length (now buf) ≡ length (now buf′)) where

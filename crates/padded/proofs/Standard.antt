@@ -18,9 +18,10 @@ use Rattle.samples.specs.Bilinear.{chromaSample}
 use Rattle.samples.proofs.Reach.{luma-six, chroma-four}
 use Rattle.margins.specs.Margin.{interior, expanded}
 use Rattle.margins.proofs.Reading.{clamp-place, reads-clamped, keeps}
+use Rattle.padded.specs.Area.{passes}
 use Rattle.padded.specs.Padded.{lumaDirect, chromaDirect, column, readAt, paddedLuma, paddedChroma}
 use Rattle.padded.proofs.Tests.{to-diff}
-use Rattle.padded.proofs.Bridge.{column-on, in-both, passes, passes-is, around, onward}
+use Rattle.padded.proofs.Bridge.{column-on, in-both, passes-is, around, onward}
 
 clamp-below : (z : ℤ) (n : ℕ) → 1 ≤ n → clampZ z n < n
 clamp-below (pos k) n h = omega arith
@@ -40,7 +41,7 @@ module _ (buf : List ℕ) (stride pad w h bw bh : ℕ) (wide : w + 2 * pad ≤ s
       → readAt d (expanded buf stride pad w h) stride pad w h u v ≡ interior buf stride pad (clampZ u w) (clampZ v h)
   unfolding readAt interior
   reading before behind o f x y c r i j u v true t from eu ev a b k l =
-      let s = in-both before behind o x y bw bh w h pad refl refl t in
+      let s = in-both before behind o x y bw bh w h pad t in
       let m = axis before behind x o f bw w pad c i u from eu (s .0 .0) (s .0 .1) a k in
       let n = axis before behind y o f bh h pad r j v from ev (s .1 .0) (s .1 .1) b l in
       reads-clamped buf stride pad w h wide _ _ (m .0) (n .0) ∙ ap₂ (interior buf stride pad) (m .1) (n .1)

@@ -1,1 +1,2 @@
 pub mod Padded
+pub mod Area

@@ -6,6 +6,7 @@ ghost use lib.ListN.{length};
 ghost use Rattle.grid.specs.Block.{drawn};
 ghost use Rattle.place.specs.Refusal.{paddedBlockRefusal};
 ghost use Rattle.place.specs.Outcome.{after};
+ghost use Rattle.padded.specs.Area.{passes, areaOf};
 ghost use Rattle.padded.specs.Padded.{inReach, paddedLuma, paddedChroma, slicesRefusal};
 use margins::Geometry;
 use place::coords;
@@ -32,6 +33,53 @@ fn in_reach(
     (base + before <= at + pad) & (at + b + behind <= n + pad + base)
 }
 
+// What is read of a plane with margins: where the area starts, its sides, and the block's place in it.
+pub struct Area {
+    pub p: usize,
+    pub w: usize,
+    pub h: usize,
+    pub x: usize,
+    pub y: usize,
+}
+
+// The whole buffer where the block's window lies inside picture plus margin, else the picture: one test for both axes.
+fn area_of(
+    g: Geometry,
+    base: usize,
+    before: usize,
+    behind: usize,
+    x: usize,
+    y: usize,
+    bw: usize,
+    bh: usize,
+) -> Area
+    requires { ⌜ (g .pw ≤ 8192) × (g .ph ≤ 8192) × (g .pad ≤ 128) × (g .stride ≤ 16384) × (base < 2 ^ 30) × (before ≤ 2) × (behind ≤ 3) × (x < 2 ^ 31) × (y < 2 ^ 31) × (bw ≤ 16) × (bh ≤ 16) ⌝ }
+    ensures { λ r. ⌜ r ≡ areaOf (passes before behind base x y bw bh (g .pw) (g .ph) (g .pad)) (g .stride) (g .pad) (g .pw) (g .ph) x y ⌝ }
+{
+    let stride = g.stride;
+    let pad = g.pad;
+    let w = g.pw;
+    let h = g.ph;
+    let across = in_reach(x, base, before, behind, bw, w, pad);
+    let down = in_reach(y, base, before, behind, bh, h, pad);
+    if across & down {
+        return Area {
+            p: 0,
+            w: w + 2 * pad,
+            h: h + 2 * pad,
+            x: x + pad,
+            y: y + pad,
+        };
+    }
+    Area {
+        p: pad * stride + pad,
+        w: w,
+        h: h,
+        x: x,
+        y: y,
+    }
+}
+
 // A luma block of which nothing is refused.
 fn luma_block(
     padded: &[u8],
@@ -47,41 +95,19 @@ fn luma_block(
     requires { ⌜ (1 ≤ g .pw) × (g .pw ≤ 8192) × (1 ≤ g .ph) × (g .ph ≤ 8192) × (g .pad ≤ 128) × (g .pw + 2 * g .pad ≤ g .stride) × (g .stride ≤ 16384) × (g .stride * (g .ph + 2 * g .pad) ≤ length (now padded)) × (x0 ≤ 65535) × (y0 ≤ 65535) × (1 ≤ bw) × (bw ≤ 16) × (1 ≤ bh) × (bh ≤ 16) × (bw * bh ≤ length (now out)) ⌝ }
     ensures { λ _. ⌜ now (out .exit) ≡ drawn (now (out .entry)) bw bh (paddedLuma (now (padded .entry)) (g .stride) (g .pad) (g .pw) (g .ph) x0 y0 bw bh mvx mvy) ⌝ }
 {
-    let stride = g.stride;
-    let pad = g.pad;
-    let w = g.pw;
-    let h = g.ph;
     let x = coords::luma_at(x0, mvx);
     let y = coords::luma_at(y0, mvy);
     let fx = coords::luma_phase(mvx);
     let fy = coords::luma_phase(mvy);
-    let across = in_reach(x, coords::LUMA_BASE, 2, 3, bw, w, pad);
-    let down = in_reach(y, coords::LUMA_BASE, 2, 3, bh, h, pad);
-    if across & down {
-        route::predict_luma(
-            padded,
-            0,
-            stride,
-            w + 2 * pad,
-            h + 2 * pad,
-            x + pad,
-            y + pad,
-            fx,
-            fy,
-            bw,
-            bh,
-            out,
-        );
-        return;
-    }
+    let at = area_of(g, coords::LUMA_BASE, 2, 3, x, y, bw, bh);
     route::predict_luma(
         padded,
-        pad * stride + pad,
-        stride,
-        w,
-        h,
-        x,
-        y,
+        at.p,
+        g.stride,
+        at.w,
+        at.h,
+        at.x,
+        at.y,
         fx,
         fy,
         bw,
@@ -108,47 +134,22 @@ fn luma_block_with(
     requires { ⌜ (1 ≤ g .pw) × (g .pw ≤ 8192) × (1 ≤ g .ph) × (g .ph ≤ 8192) × (g .pad ≤ 128) × (g .pw + 2 * g .pad ≤ g .stride) × (g .stride ≤ 16384) × (g .stride * (g .ph + 2 * g .pad) ≤ length (now padded)) × (x0 ≤ 65535) × (y0 ≤ 65535) × (1 ≤ bw) × (bw ≤ 16) × (1 ≤ bh) × (bh ≤ 16) × (bw * bh ≤ length (now out)) × (441 ≤ length (now tile)) × (256 ≤ length (now a)) × (256 ≤ length (now b)) ⌝ }
     ensures { λ _. ⌜ now (out .exit) ≡ drawn (now (out .entry)) bw bh (paddedLuma (now (padded .entry)) (g .stride) (g .pad) (g .pw) (g .ph) x0 y0 bw bh mvx mvy) ⌝ }
 {
-    let stride = g.stride;
-    let pad = g.pad;
-    let w = g.pw;
-    let h = g.ph;
     let x = coords::luma_at(x0, mvx);
     let y = coords::luma_at(y0, mvy);
     let fx = coords::luma_phase(mvx);
     let fy = coords::luma_phase(mvy);
-    let across = in_reach(x, coords::LUMA_BASE, 2, 3, bw, w, pad);
-    let down = in_reach(y, coords::LUMA_BASE, 2, 3, bh, h, pad);
-    if across & down {
-        route::predict_luma_with(
-            tile,
-            a,
-            b,
-            padded,
-            0,
-            stride,
-            w + 2 * pad,
-            h + 2 * pad,
-            x + pad,
-            y + pad,
-            fx,
-            fy,
-            bw,
-            bh,
-            out,
-        );
-        return;
-    }
+    let at = area_of(g, coords::LUMA_BASE, 2, 3, x, y, bw, bh);
     route::predict_luma_with(
         tile,
         a,
         b,
         padded,
-        pad * stride + pad,
-        stride,
-        w,
-        h,
-        x,
-        y,
+        at.p,
+        g.stride,
+        at.w,
+        at.h,
+        at.x,
+        at.y,
         fx,
         fy,
         bw,
@@ -172,47 +173,73 @@ fn chroma_block(
     requires { ⌜ (1 ≤ g .pw) × (g .pw ≤ 8192) × (1 ≤ g .ph) × (g .ph ≤ 8192) × (g .pad ≤ 128) × (g .pw + 2 * g .pad ≤ g .stride) × (g .stride ≤ 16384) × (g .stride * (g .ph + 2 * g .pad) ≤ length (now padded)) × (x0 ≤ 65535) × (y0 ≤ 65535) × (1 ≤ bw) × (bw ≤ 8) × (1 ≤ bh) × (bh ≤ 8) × (bw * bh ≤ length (now out)) ⌝ }
     ensures { λ _. ⌜ now (out .exit) ≡ drawn (now (out .entry)) bw bh (paddedChroma (now (padded .entry)) (g .stride) (g .pad) (g .pw) (g .ph) x0 y0 bw bh mvx mvy) ⌝ }
 {
-    let stride = g.stride;
-    let pad = g.pad;
-    let w = g.pw;
-    let h = g.ph;
     let x = coords::chroma_at(x0, mvx);
     let y = coords::chroma_at(y0, mvy);
     let fx = coords::chroma_phase(mvx);
     let fy = coords::chroma_phase(mvy);
-    let across = in_reach(x, coords::CHROMA_BASE, 0, 1, bw, w, pad);
-    let down = in_reach(y, coords::CHROMA_BASE, 0, 1, bh, h, pad);
-    if across & down {
-        route::predict_chroma(
-            padded,
-            0,
-            stride,
-            w + 2 * pad,
-            h + 2 * pad,
-            x + pad,
-            y + pad,
-            fx,
-            fy,
-            bw,
-            bh,
-            out,
-        );
-        return;
-    }
+    let at = area_of(g, coords::CHROMA_BASE, 0, 1, x, y, bw, bh);
     route::predict_chroma(
         padded,
-        pad * stride + pad,
-        stride,
-        w,
-        h,
-        x,
-        y,
+        at.p,
+        g.stride,
+        at.w,
+        at.h,
+        at.x,
+        at.y,
         fx,
         fy,
         bw,
         bh,
         out,
     );
+}
+
+// What is refused of a block of at most `most` a side, from a plane of len bytes into an output of `out`.
+fn check(
+    most: usize,
+    len: usize,
+    g: Geometry,
+    x0: usize,
+    y0: usize,
+    bw: usize,
+    bh: usize,
+    out: usize,
+) -> u32
+    requires { ⌜ most ≤ 16 ⌝ }
+    ensures { λ r. ⌜ r ≡ paddedBlockRefusal most len (g .pw) (g .ph) (g .pad) (g .stride) x0 y0 bw bh out ⌝ }
+{
+    limits::check_padded_block(most, len, g.pw, g.ph, g.pad, g.stride, x0, y0, bw, bh, out)
+}
+
+// The same with scratch of these lengths: short scratch is refused as a short output is.
+fn check_lent(
+    tile: usize,
+    a: usize,
+    b: usize,
+    len: usize,
+    g: Geometry,
+    x0: usize,
+    y0: usize,
+    bw: usize,
+    bh: usize,
+    out: usize,
+) -> u32
+    ensures { λ r. ⌜ r ≡ slicesRefusal tile a b len (g .pw) (g .ph) (g .pad) (g .stride) x0 y0 bw bh out ⌝ }
+{
+    let no = check(limits::LUMA, len, g, x0, y0, bw, bh, out);
+    if no != limits::DONE {
+        return no;
+    }
+    if tile < TILE {
+        return limits::SHORT_OUTPUT;
+    }
+    if a < ANCHOR {
+        return limits::SHORT_OUTPUT;
+    }
+    if b < ANCHOR {
+        return limits::SHORT_OUTPUT;
+    }
+    limits::DONE
 }
 
 // The luma block at (x0, y0), moved by the vector in quarter samples, into out by rows.
@@ -230,19 +257,7 @@ pub fn mc_luma_padded(
     ensures { λ r. ⌜ (r ≡ paddedBlockRefusal 16 (length (now (padded .entry))) (g .pw) (g .ph) (g .pad) (g .stride) x0 y0 bw bh (length (now (out .entry))))
         × (now (out .exit) ≡ after r (now (out .entry)) (drawn (now (out .entry)) bw bh (paddedLuma (now (padded .entry)) (g .stride) (g .pad) (g .pw) (g .ph) x0 y0 bw bh mvx mvy))) ⌝ }
 {
-    let no = limits::check_padded_block(
-        limits::LUMA,
-        padded.len(),
-        g.pw,
-        g.ph,
-        g.pad,
-        g.stride,
-        x0,
-        y0,
-        bw,
-        bh,
-        out.len(),
-    );
+    let no = check(limits::LUMA, padded.len(), g, x0, y0, bw, bh, out.len());
     if no != limits::DONE {
         return no;
     }
@@ -250,7 +265,7 @@ pub fn mc_luma_padded(
     limits::DONE
 }
 
-// The same with lent scratch: short scratch is refused as a short output is; it is as it was after a refusal, and free after a done call.
+// The same with lent scratch, which is as it was after a refusal, and free after a done call.
 pub fn mc_luma_padded_slices(
     tile: &mut [u8],
     a: &mut [u8],
@@ -269,13 +284,12 @@ pub fn mc_luma_padded_slices(
         × (now (out .exit) ≡ after r (now (out .entry)) (drawn (now (out .entry)) bw bh (paddedLuma (now (padded .entry)) (g .stride) (g .pad) (g .pw) (g .ph) x0 y0 bw bh mvx mvy)))
         × (now (tile .exit) ≡ after r (now (tile .entry)) (now (tile .exit))) × (now (a .exit) ≡ after r (now (a .entry)) (now (a .exit))) × (now (b .exit) ≡ after r (now (b .entry)) (now (b .exit))) ⌝ }
 {
-    let no = limits::check_padded_block(
-        limits::LUMA,
+    let no = check_lent(
+        tile.len(),
+        a.len(),
+        b.len(),
         padded.len(),
-        g.pw,
-        g.ph,
-        g.pad,
-        g.stride,
+        g,
         x0,
         y0,
         bw,
@@ -284,15 +298,6 @@ pub fn mc_luma_padded_slices(
     );
     if no != limits::DONE {
         return no;
-    }
-    if tile.len() < TILE {
-        return limits::SHORT_OUTPUT;
-    }
-    if a.len() < ANCHOR {
-        return limits::SHORT_OUTPUT;
-    }
-    if b.len() < ANCHOR {
-        return limits::SHORT_OUTPUT;
     }
     luma_block_with(tile, a, b, padded, g, x0, y0, bw, bh, mvx, mvy, out);
     limits::DONE
@@ -313,19 +318,7 @@ pub fn mc_chroma_padded(
     ensures { λ r. ⌜ (r ≡ paddedBlockRefusal 8 (length (now (padded .entry))) (g .pw) (g .ph) (g .pad) (g .stride) x0 y0 bw bh (length (now (out .entry))))
         × (now (out .exit) ≡ after r (now (out .entry)) (drawn (now (out .entry)) bw bh (paddedChroma (now (padded .entry)) (g .stride) (g .pad) (g .pw) (g .ph) x0 y0 bw bh mvx mvy))) ⌝ }
 {
-    let no = limits::check_padded_block(
-        limits::CHROMA,
-        padded.len(),
-        g.pw,
-        g.ph,
-        g.pad,
-        g.stride,
-        x0,
-        y0,
-        bw,
-        bh,
-        out.len(),
-    );
+    let no = check(limits::CHROMA, padded.len(), g, x0, y0, bw, bh, out.len());
     if no != limits::DONE {
         return no;
     }
@@ -359,19 +352,7 @@ pub fn mc_chroma_padded_pair(
 {
     let source = shorter(pu.len(), pv.len());
     let target = shorter(outu.len(), outv.len());
-    let no = limits::check_padded_block(
-        limits::CHROMA,
-        source,
-        g.pw,
-        g.ph,
-        g.pad,
-        g.stride,
-        x0,
-        y0,
-        bw,
-        bh,
-        target,
-    );
+    let no = check(limits::CHROMA, source, g, x0, y0, bw, bh, target);
     if no != limits::DONE {
         return no;
     }

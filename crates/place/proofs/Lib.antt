@@ -2,3 +2,4 @@
 pub mod Refused
 pub mod CoordLaws
 pub mod Windows
+pub mod Reach

@@ -6,9 +6,9 @@ use native.Mathlib.Nat.{mul-le-mul-right, add-zero}
 use native.Mathlib.Omega.{arith}
 use lib.ListN.{getD}
 use Rattle.grid.specs.Block.{drawn}
-use Rattle.grid.proofs.Fill.{drawn-at}
+use Rattle.grid.proofs.Fill.{drawn-at, drawn-ext}
 use Rattle.place.specs.Near.{near, nearArea}
-use Rattle.samples.specs.Phase.{Window, lumaSample}
+use Rattle.samples.specs.Phase.{lumaSample}
 use Rattle.samples.specs.Bilinear.{chromaSample}
 use Rattle.samples.specs.Kernel.{windowAt}
 use Rattle.samples.proofs.Reach.{luma-six, luma-full, chroma-four, chroma-full}
@@ -21,6 +21,10 @@ rows-in j e h s p q = let b : j + (e - 1) ≤ h - 1 = omega arith in omega (arit
 -- on one axis: a place inside is not moved
 near-on : (base n at i e : ℕ) → base ≤ at → at - base + e ≤ n → i < e → near base n (at + i) ≡ at - base + i
 near-on base n at i e a b c = omega arith
+
+-- the lanes that follow the start of a block's last row have room
+pub room-of : {len p stride w h x y base ew eh lanes at : ℕ} → Lies len p stride w h x y base ew eh lanes at → (n : ℕ) → eh ≡ n + 1 → at + n * stride + lanes ≤ len
+room-of {stride = stride} {eh = eh} l n e = let f : eh - 1 ≡ n = omega arith in omega (arith, l .room, ap (λ (k : ℕ). k * stride) f)
 
 -- READING IN PLACE: a sample of the window at (x, y)
 pub in-place : (src : List ℕ) {len p stride w h x y base ew eh lanes at : ℕ} → Lies len p stride w h x y base ew eh lanes at
@@ -44,44 +48,6 @@ in-tile src t₀ {t} p stride w h x y base tw th e c r i j a b =
     let k : y + (r + j) ≡ y + r + j = omega arith in
     ap₂ (λ (l : List ℕ) (n : ℕ). getD l n 0) e f ∙ drawn-at t₀ tw th _ (c + i) (r + j) a b ∙ ap₂ (nearArea src p stride w h base) g k
 
--- a place two up is column 2 and row 2 of its window
-two-up : (b n at : ℕ) → near b n at ≡ near (b + 2) n (at + 2)
-two-up b n at = omega arith
-
--- at a full phase: the sample at the place itself
-pub luma-at-full : (src : List ℕ) (p stride w h x y fx fy c r : ℕ) → fx + fy ≡ 0
-    → nearArea src p stride w h (2 ^ 29) (x + c) (y + r) ≡ lumaNear src p stride w h x y fx fy c r
-unfolding lumaNear nearArea
-luma-at-full src p stride w h x y fx fy c r e =
-    let ex : 0 ≡ fx = omega arith in
-    let ey : 0 ≡ fy = omega arith in
-    ap₂ (λ (u v : ℕ). getD src (p + v * stride + u) 0) (two-up (2 ^ 29) w (x + c)) (two-up (2 ^ 29) h (y + r))
-    ∙ sym (luma-full 255 (λ i j. nearArea src p stride w h (2 ^ 29 + 2) (x + c + i) (y + r + j)))
-    ∙ ap₂ (λ (u v : ℕ). lumaSample 255 u v (λ i j. nearArea src p stride w h (2 ^ 29 + 2) (x + c + i) (y + r + j))) ex ey
-
-pub chroma-at-full : (src : List ℕ) (p stride w h x y fx fy c r : ℕ) → fx + fy ≡ 0
-    → nearArea src p stride w h (2 ^ 28) (x + c) (y + r) ≡ chromaNear src p stride w h x y fx fy c r
-unfolding chromaNear
-chroma-at-full src p stride w h x y fx fy c r e =
-    let ex : 0 ≡ fx = omega arith in
-    let ey : 0 ≡ fy = omega arith in
-    ap₂ (nearArea src p stride w h (2 ^ 28)) (sym (add-zero (x + c))) (sym (add-zero (y + r)))
-    ∙ sym (chroma-full (λ i j. nearArea src p stride w h (2 ^ 28) (x + c + i) (y + r + j)))
-    ∙ ap₂ (λ (u v : ℕ). chromaSample u v (λ i j. nearArea src p stride w h (2 ^ 28) (x + c + i) (y + r + j))) ex ey
-
--- at any phase: windows that are read in place, or out of a tile
-pub luma-windows : (src : List ℕ) (p stride w h x y fx fy c r : ℕ) (W : Window)
-    → ((i j : ℕ) → i < 6 → j < 6 → W i j ≡ nearArea src p stride w h (2 ^ 29 + 2) (x + c + i) (y + r + j))
-    → lumaSample 255 fx fy W ≡ lumaNear src p stride w h x y fx fy c r
-unfolding lumaNear
-luma-windows src p stride w h x y fx fy c r W e = luma-six 255 W _ e fx fy
-
-pub chroma-windows : (src : List ℕ) (p stride w h x y fx fy c r : ℕ) (W : Window)
-    → ((i j : ℕ) → i < 2 → j < 2 → W i j ≡ nearArea src p stride w h (2 ^ 28) (x + c + i) (y + r + j))
-    → chromaSample fx fy W ≡ chromaNear src p stride w h x y fx fy c r
-unfolding chromaNear
-chroma-windows src p stride w h x y fx fy c r W e = chroma-four fx fy W _ e
-
 -- the windows of a block that lies inside
 pub place-windows : (src : List ℕ) {len p stride w h x y base ew eh lanes at : ℕ} → Lies len p stride w h x y base ew eh lanes at
     → (c r i j : ℕ) → c + i < ew → r + j < eh → windowAt src at stride c r i j ≡ nearArea src p stride w h base (x + c + i) (y + r + j)
@@ -90,3 +56,49 @@ place-windows src {p = p} {stride = stride} {w = w} {h = h} {x = x} {y = y} {bas
     let g : x + (c + i) ≡ x + c + i = omega arith in
     let k : y + (r + j) ≡ y + r + j = omega arith in
     sym (in-place src l (c + i) (r + j) a b) ∙ ap₂ (nearArea src p stride w h base) g k
+
+-- a place two up is column 2 and row 2 of its window
+two-up : (b n at : ℕ) → near b n at ≡ near (b + 2) n (at + 2)
+two-up b n at = omega arith
+
+-- A BLOCK of each way to read: of full samples, out of windows that lie inside, out of the windows of a tile
+module _ (out src : List ℕ) (p stride w h x y fx fy bw bh : ℕ) where
+  pub full-luma : fx + fy ≡ 0 → drawn out bw bh (λ c r. nearArea src p stride w h (2 ^ 29) (x + c) (y + r)) ≡ drawn out bw bh (lumaNear src p stride w h x y fx fy)
+  unfolding lumaNear nearArea
+  full-luma e =
+      let ex : 0 ≡ fx = omega arith in
+      let ey : 0 ≡ fy = omega arith in
+      drawn-ext out bw bh _ _ (λ c r _ _.
+      ap₂ (λ (u v : ℕ). getD src (p + v * stride + u) 0) (two-up (2 ^ 29) w (x + c)) (two-up (2 ^ 29) h (y + r))
+      ∙ sym (luma-full 255 (λ i j. nearArea src p stride w h (2 ^ 29 + 2) (x + c + i) (y + r + j)))
+      ∙ ap₂ (λ (u v : ℕ). lumaSample 255 u v (λ i j. nearArea src p stride w h (2 ^ 29 + 2) (x + c + i) (y + r + j))) ex ey)
+
+  pub placed-luma : {len lanes at : ℕ} → Lies len p stride w h x y (2 ^ 29 + 2) (bw + 5) (bh + 5) lanes at
+      → drawn out bw bh (λ c r. lumaSample 255 fx fy (windowAt src at stride c r)) ≡ drawn out bw bh (lumaNear src p stride w h x y fx fy)
+  unfolding lumaNear
+  placed-luma l = drawn-ext out bw bh _ _ (λ c r a b. luma-six 255 _ _ (λ i j k m. place-windows src l c r i j (omega arith) (omega arith)) fx fy)
+
+  pub tiled-luma : {t : List ℕ} (t₀ : List ℕ) → t ≡ drawn t₀ (bw + 5) (bh + 5) (λ i j. nearArea src p stride w h (2 ^ 29 + 2) (x + i) (y + j))
+      → drawn out bw bh (λ c r. lumaSample 255 fx fy (windowAt t 0 (bw + 5) c r)) ≡ drawn out bw bh (lumaNear src p stride w h x y fx fy)
+  unfolding lumaNear
+  tiled-luma t₀ e = drawn-ext out bw bh _ _ (λ c r a b. luma-six 255 _ _ (λ i j k m. in-tile src t₀ p stride w h x y _ (bw + 5) (bh + 5) e c r i j (omega arith) (omega arith)) fx fy)
+
+  pub full-chroma : fx + fy ≡ 0 → drawn out bw bh (λ c r. nearArea src p stride w h (2 ^ 28) (x + c) (y + r)) ≡ drawn out bw bh (chromaNear src p stride w h x y fx fy)
+  unfolding chromaNear
+  full-chroma e =
+      let ex : 0 ≡ fx = omega arith in
+      let ey : 0 ≡ fy = omega arith in
+      drawn-ext out bw bh _ _ (λ c r _ _.
+      ap₂ (nearArea src p stride w h (2 ^ 28)) (sym (add-zero (x + c))) (sym (add-zero (y + r)))
+      ∙ sym (chroma-full (λ i j. nearArea src p stride w h (2 ^ 28) (x + c + i) (y + r + j)))
+      ∙ ap₂ (λ (u v : ℕ). chromaSample u v (λ i j. nearArea src p stride w h (2 ^ 28) (x + c + i) (y + r + j))) ex ey)
+
+  pub placed-chroma : {len lanes at : ℕ} → Lies len p stride w h x y (2 ^ 28) (bw + 1) (bh + 1) lanes at
+      → drawn out bw bh (λ c r. chromaSample fx fy (windowAt src at stride c r)) ≡ drawn out bw bh (chromaNear src p stride w h x y fx fy)
+  unfolding chromaNear
+  placed-chroma l = drawn-ext out bw bh _ _ (λ c r a b. chroma-four fx fy _ _ (λ i j k m. place-windows src l c r i j (omega arith) (omega arith)))
+
+  pub tiled-chroma : {t : List ℕ} (t₀ : List ℕ) → t ≡ drawn t₀ (bw + 1) (bh + 1) (λ i j. nearArea src p stride w h (2 ^ 28) (x + i) (y + j))
+      → drawn out bw bh (λ c r. chromaSample fx fy (windowAt t 0 (bw + 1) c r)) ≡ drawn out bw bh (chromaNear src p stride w h x y fx fy)
+  unfolding chromaNear
+  tiled-chroma t₀ e = drawn-ext out bw bh _ _ (λ c r a b. chroma-four fx fy _ _ (λ i j k m. in-tile src t₀ p stride w h x y _ (bw + 1) (bh + 1) e c r i j (omega arith) (omega arith)))

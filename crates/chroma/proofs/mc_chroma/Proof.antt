@@ -1,11 +1,10 @@
 -- `chroma::mc_chroma` meets its contract: what an answer of 0 tells, then the block, then the bridge to the standard. Assumes nothing.
 use borrow.Author.Needs.{needs}
-use mathlib.Core.Path.{_≡_, sym, _∙_}
+use mathlib.Core.Path.{sym, _∙_}
 use native.Mathlib.Omega.{arith}
 use lib.ListN.{length}
 use mir.Facts.{toZ-ofZ}
 use denote.Ref.{now}
-use Rattle.grid.proofs.Fill.{drawn-ext}
 use Rattle.grid.proofs.Loop.{last-row}
 use Rattle.place.proofs.Refused.{PlaneOk, BlockOk, plain-block-ok, kept}
 use Rattle.chroma.proofs.Bridge.{near-predicted}
@@ -16,12 +15,6 @@ use Rattle.chroma.proofs.mc_chroma.Tie as tie
 ok : (c : tie.Else1) → let a = c .before .before .before .before .args in
     PlaneOk (length (now (a .reference))) (a .cw) (a .ch) × BlockOk 8 (a .x0) (a .y0) (a .bw) (a .bh) (length (now (a .out)))
 ok c = plain-block-ok _ _ _ _ _ _ _ _ _ (sym (c .if1 .left) ∙ c .before .check-plain-block .ensures)
-
-predict-chroma-requires : tie.Need-predict-chroma-requires
-predict-chroma-requires c κs =
-    let k = c .before .before .before .before .before in
-    let a = k .before .before .before .before .args in
-    omega (arith, ok k, last-row (a .cw) (a .ch) (ok k .0 .h1))
 
 returns-2 : tie.Need-returns-2
 returns-2 c =
@@ -35,10 +28,9 @@ returns-2 c =
     let a = s .args in (
       sym (k .if1 .left) ∙ k .before .check-plain-block .ensures,
       f .predict-chroma .ensures
-          ∙ drawn-ext (now (a .out)) (a .bw) (a .bh) _ _ (λ i j _ _.
-          near-predicted (now (a .reference)) (a .cw) (a .ch) (a .x0) (a .y0) (a .mvx) (a .mvy) (s .fits .mvx .sfits) (s .fits .mvy .sfits)
+          ∙ near-predicted (now (a .out)) (now (a .reference)) (a .cw) (a .ch) (a .x0) (a .y0) (a .bw) (a .bh) (a .mvx) (a .mvy) (s .fits .mvx .sfits) (s .fits .mvy .sfits)
           (simp (toZ-ofZ (s .fits .mvx)) at (u .chroma-at .ensures .0)) (simp (toZ-ofZ (s .fits .mvy)) at (v .chroma-at2 .ensures .0))
-          (simp (toZ-ofZ (s .fits .mvx)) at (x .chroma-phase .ensures .0)) (simp (toZ-ofZ (s .fits .mvy)) at (y .chroma-phase2 .ensures .0)) i j),
+          (simp (toZ-ofZ (s .fits .mvx)) at (x .chroma-phase .ensures .0)) (simp (toZ-ofZ (s .fits .mvy)) at (y .chroma-phase2 .ensures .0)),
     )
 
 pub mc-chroma-spec : {M : Type 1} → statement M
@@ -51,6 +43,6 @@ mc-chroma-spec =
     (λ c κs. omega (arith, ok (c .before)))
     (λ c κs. search needs)
     (λ c κs. search needs)
-    predict-chroma-requires
+    (λ c κs. let k = c .before .before .before .before .before in let a = k .before .before .before .before .args in omega (arith, ok k, last-row (a .cw) (a .ch) (ok k .0 .h1)))
     (λ c. search needs)
     returns-2)

@@ -11,16 +11,16 @@ use Rattle.place.proofs.Refused.{PaddedOk, BlockOk, padded-block-ok, kept}
 use Rattle.padded.proofs.mc_chroma_padded_pair.Statement.{statement}
 use Rattle.padded.proofs.mc_chroma_padded_pair.Tie as tie
 
-abbrev entry : tie.After-check-padded-block → tie.Start
+abbrev entry : tie.After-check → tie.Start
 entry k = k .before .before .before .before .before .before .before
 
-answer : (k : tie.After-check-padded-block) → let a = entry k .args in let g = a .g in
-    k .check-padded-block .result
+answer : (k : tie.After-check) → let a = entry k .args in let g = a .g in
+    k .check .result
     ≡ paddedBlockRefusal 8 (min (length (now (a .pu))) (length (now (a .pv)))) (g .pw) (g .ph) (g .pad) (g .stride) (a .x0) (a .y0) (a .bw) (a .bh) (min (length (now (a .outu))) (length (now (a .outv))))
 answer k =
     let a = entry k .args in
     let g = a .g in
-    k .check-padded-block .ensures
+    k .check .ensures
     ∙ ap₂ (λ (m n : ℕ). paddedBlockRefusal 8 m (g .pw) (g .ph) (g .pad) (g .stride) (a .x0) (a .y0) (a .bw) (a .bh) n) (k .before .before .shorter .ensures) (k .before .shorter2 .ensures)
 
 -- nothing was refused

@@ -1,12 +1,11 @@
 -- `route::chroma_tiled` meets its contract: the kernels read the tile, which reads as the windows. Assumes nothing.
 use borrow.Author.Needs.{needs}
-use mathlib.Core.Path.{_≡_, _∙_}
-use Prim.Native.Nat.{ℕ, _+_, _*_, _≤_}
+use mathlib.Core.Path.{_∙_}
+use Prim.Native.Nat.{_+_, _*_, _≤_}
 use native.Mathlib.Omega.{arith}
 use denote.Ref.{now}
-use Rattle.grid.proofs.Fill.{drawn-ext}
 use Rattle.place.proofs.Refused.{area}
-use Rattle.route.proofs.Inside.{in-tile, chroma-windows}
+use Rattle.route.proofs.Inside.{tiled-chroma}
 use Rattle.route.proofs.chroma_tiled.Statement.{statement}
 use Rattle.route.proofs.chroma_tiled.Tie as tie
 
@@ -20,9 +19,7 @@ returns c =
     let t = d .before .before .before .before in
     let a = t .before .before .before .before .args in
     d .chroma-block .ensures
-    ∙ drawn-ext (now (a .out)) (a .bw) (a .bh) _ _ (λ x y p q.
-    chroma-windows (now (a .src)) (a .p) (a .stride) (a .w) (a .h) (a .x) (a .y) (a .fx) (a .fy) x y _ (λ i j k l.
-    in-tile (now (a .src)) _ (a .p) (a .stride) (a .w) (a .h) (a .x) (a .y) _ (a .bw + 1) (a .bh + 1) (t .clamped-area .ensures) x y i j (omega arith) (omega arith)))
+    ∙ tiled-chroma (now (a .out)) (now (a .src)) (a .p) (a .stride) (a .w) (a .h) (a .x) (a .y) (a .fx) (a .fy) (a .bw) (a .bh) _ (t .clamped-area .ensures)
 
 pub chroma-tiled-spec : {M : Type 1} → statement M
 chroma-tiled-spec =

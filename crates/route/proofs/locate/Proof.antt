@@ -1,7 +1,7 @@
 -- `route::locate` meets its contract: each test in turn, and what they leave. Assumes nothing.
 use borrow.Author.Needs.{needs}
 use mathlib.Core.Bool.{false≢true}
-use Prim.Native.Nat.{ℕ, _+_, _*_, _-_, _≤_}
+use Prim.Native.Nat.{_+_, _*_, _-_, _≤_}
 use native.Mathlib.Omega.{arith}
 use Rattle.route.proofs.Inside.{rows-in}
 use Rattle.route.proofs.locate.Statement.{statement}

@@ -1,6 +1,5 @@
 -- `route::luma_direct` meets its contract: the anchors go into arrays of its own. Assumes nothing.
 use borrow.Author.Needs.{needs}
-use native.Mathlib.Nat.{mul-le-mul-right, mul-le-mul-left}
 use native.Mathlib.Omega.{arith}
 use Rattle.place.proofs.Refused.{area}
 use Rattle.route.proofs.luma_direct.Statement.{statement}

@@ -1,12 +1,11 @@
 -- `route::luma_tiled` meets its contract: the kernels read the tile, which reads as the windows. Assumes nothing.
 use borrow.Author.Needs.{needs}
-use mathlib.Core.Path.{_≡_, _∙_}
-use Prim.Native.Nat.{ℕ, _+_, _*_, _≤_}
+use mathlib.Core.Path.{_∙_}
+use Prim.Native.Nat.{_+_, _*_, _≤_}
 use native.Mathlib.Omega.{arith}
 use denote.Ref.{now}
-use Rattle.grid.proofs.Fill.{drawn-ext}
 use Rattle.place.proofs.Refused.{area}
-use Rattle.route.proofs.Inside.{in-tile, luma-windows}
+use Rattle.route.proofs.Inside.{tiled-luma}
 use Rattle.route.proofs.luma_tiled.Statement.{statement}
 use Rattle.route.proofs.luma_tiled.Tie as tie
 
@@ -20,9 +19,7 @@ returns c =
     let t = d .before .before .before .before in
     let a = t .before .before .before .before .args in
     d .luma-direct .ensures
-    ∙ drawn-ext (now (a .out)) (a .bw) (a .bh) _ _ (λ x y p q.
-    luma-windows (now (a .src)) (a .p) (a .stride) (a .w) (a .h) (a .x) (a .y) (a .fx) (a .fy) x y _ (λ i j k l.
-    in-tile (now (a .src)) _ (a .p) (a .stride) (a .w) (a .h) (a .x) (a .y) _ (a .bw + 5) (a .bh + 5) (t .luma-tile-into .ensures) x y i j (omega arith) (omega arith)))
+    ∙ tiled-luma (now (a .out)) (now (a .src)) (a .p) (a .stride) (a .w) (a .h) (a .x) (a .y) (a .fx) (a .fy) (a .bw) (a .bh) _ (t .luma-tile-into .ensures)
 
 pub luma-tiled-spec : {M : Type 1} → statement M
 luma-tiled-spec =

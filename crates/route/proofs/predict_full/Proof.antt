@@ -1,9 +1,8 @@
 -- `route::predict_full` meets its contract: the block is read in place, or its clamped samples are written. Assumes nothing.
 use borrow.Author.Needs.{needs}
-use mathlib.Core.Path.{_≡_, sym, ap, _∙_}
-use Prim.Native.Nat.{ℕ, _+_, _*_}
+use mathlib.Core.Path.{sym, _∙_}
 use native.Mathlib.Omega.{arith}
-use lib.ListN.{length, getD}
+use lib.ListN.{length}
 use denote.Ref.{now}
 use Rattle.grid.proofs.Fill.{drawn-ext}
 use Rattle.route.specs.Area.{Lies}

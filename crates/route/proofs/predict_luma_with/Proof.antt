@@ -1,14 +1,13 @@
 -- `route::predict_luma_with` meets its contract: as `predict_luma`, the tile and the anchors in lent slices. Assumes nothing.
 use borrow.Author.Needs.{needs}
-use mathlib.Core.Path.{_≡_, ap, _∙_}
-use Prim.Native.Nat.{ℕ, _+_, _*_, _-_, _^_, _≤_}
+use mathlib.Core.Path.{_∙_}
+use Prim.Native.Nat.{_+_, _*_, _^_, _≤_}
 use native.Mathlib.Omega.{arith}
 use lib.ListN.{length}
 use denote.Ref.{now}
-use Rattle.grid.proofs.Fill.{drawn-ext}
 use Rattle.place.proofs.Refused.{area}
 use Rattle.route.specs.Area.{Lies}
-use Rattle.route.proofs.Inside.{luma-at-full, luma-windows, place-windows, in-tile}
+use Rattle.route.proofs.Inside.{room-of, full-luma, placed-luma, tiled-luma}
 use Rattle.route.proofs.predict_luma_with.Statement.{statement}
 use Rattle.route.proofs.predict_luma_with.Tie as tie
 
@@ -18,13 +17,6 @@ entry c = c .before .before .before .before .before .before
 lies : (c : tie.Then2) → let a = entry (c .before .before) .args in
     Lies (length (now (a .src))) (a .p) (a .stride) (a .w) (a .h) (a .x) (a .y) (2 ^ 29 + 2) (a .bw + 5) (a .bh + 5) 21 (c .before .locate .result .at)
 lies c = c .before .locate .ensures (c .if2 .taken)
-
--- the kernels' lanes have room
-room : (c : tie.Then2) → let a = entry (c .before .before) .args in c .before .locate .result .at + (a .bh + 4) * a .stride + 21 ≤ length (now (a .src))
-room c =
-    let a = entry (c .before .before) .args in
-    let e : a .bh + 5 - 1 ≡ a .bh + 4 = omega arith in
-    omega (arith, lies c .room, ap (λ (k : ℕ). k * a .stride) e)
 
 -- the tile, the lanes that are read from its last row on, and the anchors fit what is lent
 small : (c : tie.Start) → let a = c .args in ((a .bw + 5) * (a .bh + 5) ≤ 21 * 21) × ((a .bh + 4) * (a .bw + 5) ≤ 20 * 21) × (a .bw * a .bh ≤ 16 * 16)
@@ -36,7 +28,7 @@ returns c =
     let k = f .before .before in
     let a = k .before .before .before .before .before .before .args in
     f .predict-full .ensures
-    ∙ drawn-ext (now (a .out)) (a .bw) (a .bh) _ _ (λ x y _ _. luma-at-full (now (a .src)) (a .p) (a .stride) (a .w) (a .h) (a .x) (a .y) (a .fx) (a .fy) x y (k .if1 .taken))
+    ∙ full-luma (now (a .out)) (now (a .src)) (a .p) (a .stride) (a .w) (a .h) (a .x) (a .y) (a .fx) (a .fy) (a .bw) (a .bh) (k .if1 .taken)
 
 returns-2 : tie.Need-returns-2
 returns-2 c =
@@ -44,8 +36,7 @@ returns-2 c =
     let k = f .before .before .before .before in
     let a = entry (k .before .before) .args in
     f .luma-block .ensures
-    ∙ drawn-ext (now (a .out)) (a .bw) (a .bh) _ _ (λ x y p q.
-    luma-windows (now (a .src)) (a .p) (a .stride) (a .w) (a .h) (a .x) (a .y) (a .fx) (a .fy) x y _ (λ i j l m. place-windows (now (a .src)) (lies k) x y i j (omega arith) (omega arith)))
+    ∙ placed-luma (now (a .out)) (now (a .src)) (a .p) (a .stride) (a .w) (a .h) (a .x) (a .y) (a .fx) (a .fy) (a .bw) (a .bh) (lies k)
 
 returns-3 : tie.Need-returns-3
 returns-3 c =
@@ -53,9 +44,7 @@ returns-3 c =
     let t = f .before .before .before .before .before .before .before in
     let a = entry (t .before .before .before .before) .args in
     f .luma-block2 .ensures
-    ∙ drawn-ext (now (a .out)) (a .bw) (a .bh) _ _ (λ x y p q.
-    luma-windows (now (a .src)) (a .p) (a .stride) (a .w) (a .h) (a .x) (a .y) (a .fx) (a .fy) x y _ (λ i j k l.
-    in-tile (now (a .src)) _ (a .p) (a .stride) (a .w) (a .h) (a .x) (a .y) _ (a .bw + 5) (a .bh + 5) (t .luma-tile-into .ensures) x y i j (omega arith) (omega arith)))
+    ∙ tiled-luma (now (a .out)) (now (a .src)) (a .p) (a .stride) (a .w) (a .h) (a .x) (a .y) (a .fx) (a .fy) (a .bw) (a .bh) _ (t .luma-tile-into .ensures)
 
 pub predict-luma-with-spec : {M : Type 1} → statement M
 predict-luma-with-spec =
@@ -69,7 +58,7 @@ predict-luma-with-spec =
     (λ c. search needs)
     (λ c. search needs)
     (λ c κs. search needs)
-    (λ c κs. let k = c .before .before .before in omega (arith, room k, small (entry (k .before .before))))
+    (λ c κs. let k = c .before .before .before in let s = entry (k .before .before) in omega (arith, room-of (lies k) (s .args .bh + 4) (omega arith), small s))
     (λ c. search needs)
     (λ c. search needs)
     (λ c. search needs)

@@ -1,6 +1,6 @@
 -- `kernels::halves::half_lanes` meets its contract. The loop's invariant: the first i lanes are filled. Assumes nothing.
-use mathlib.Core.Path.{_≡_, sym}
-use Prim.Native.Nat.{ℕ, _+_, _-_}
+use mathlib.Core.Path.{sym}
+use Prim.Native.Nat.{_+_, _-_}
 use native.Mathlib.Nat.{zero-add}
 use native.Mathlib.Omega.{arith}
 use Rattle.grid.specs.Run.{from}
