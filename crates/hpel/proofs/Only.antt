@@ -29,10 +29,10 @@ Written = Passed (RefT (List ℕ) × Unit {0})
 abbrev pub out : Written → List ℕ
 out x = now (x .1 .1 .1 .1 .1 .1 .1 .1 .1 .1 .1 .1 .1 .0)
 
-pub hpel-ref-at-only : (κs : Lfts 4) (x s t : Read) (p q : HpelAt) → ref-at.Post κs x p s → ref-at.Post κs x q t → p ≡ q
+pub hpel-ref-at-only : (κs : Lfts 1) (x s t : Read) (p q : HpelAt) → ref-at.Post κs x p s → ref-at.Post κs x q t → p ≡ q
 hpel-ref-at-only κs x s t p q a b = a ∙ sym b
 
-pub hpel-qpel-refs-at-only : (κs : Lfts 4) (x s t : Read) (p q : HpelPair) → qpel-refs-at.Post κs x p s → qpel-refs-at.Post κs x q t → p ≡ q
+pub hpel-qpel-refs-at-only : (κs : Lfts 1) (x s t : Read) (p q : HpelPair) → qpel-refs-at.Post κs x p s → qpel-refs-at.Post κs x q t → p ≡ q
 hpel-qpel-refs-at-only κs x s t p q a b = a ∙ sym b
 
 pub hpel-ref-only : (κs : Lfts 1) (x s t : Read) (p q : RefT (List ℕ)) → ref.Post κs x p s → ref.Post κs x q t → now p ≡ now q
