@@ -31,7 +31,7 @@ clamp-twice (negsuc k) n pad h =
     let e : near (1 + k + pad) n 0 ≡ near pad n 0 = omega arith in
     ap (λ (u : ℤ). clampZ u n) (to-diff 0 pad) ∙ clamp-sub 0 pad n ∙ sym e ∙ sym (ap (λ (u : ℤ). clampZ u n) d ∙ clamp-sub 0 (1 + k + pad) n)
 
-swap : (a b c : ℤ) → a +ℤ b +ℤ c ≡ a +ℤ c +ℤ b
+pub swap : (a b c : ℤ) → a +ℤ b +ℤ c ≡ a +ℤ c +ℤ b
 swap a b c = +ℤ-assoc a b c ∙ ap (λ (z : ℤ). a +ℤ z) (+ℤ-comm b c) ∙ sym (+ℤ-assoc a c b)
 
 back : (z : ℤ) (i pad : ℕ) → z +ℤ pos i -ℤ pos 2 -ℤ pos pad ≡ z -ℤ pos pad +ℤ pos i -ℤ pos 2
