@@ -1,16 +1,15 @@
 -- The views, read with the stride, give what the block gives, whatever the planes hold: the tail of a full or half phase itself,
 -- the two tails of a quarter phase their mean. Assumes nothing.
 use mathlib.Core.Path.{_≡_, refl, sym, ap, ap₂, _∙_}
-use mathlib.Core.Bool.{Bool, true, false, cond, not, _||_}
+use mathlib.Core.Bool.{Bool, true, false, cond}
 use mathlib.Core.List.{List, [], _∷_}
-use Prim.Native.Nat.{ℕ, zero, suc, _+_, _*_, _/_, _%_, _<_}
+use Prim.Native.Nat.{ℕ, zero, suc, _+_, _*_, _/_, _<_}
 use native.Mathlib.Nat.{mod-lt}
 use native.Mathlib.Omega.{arith}
-use lib.Dec.{eqb, ltb}
+use lib.Dec.{ltb}
 use lib.IntN.{ℤ, pos, negsuc}
 use lib.ListN.{length, drop, getD}
 use lib.Seq.{getD-drop}
-use borrow.Author.Tests.{eqb-false}
 use Rattle.grid.specs.Block.{sample}
 use Rattle.place.specs.Outcome.{after}
 use Rattle.place.specs.Place.{lumaPlace, phase}
@@ -19,43 +18,18 @@ use Rattle.planes.specs.Planes.{wide}
 use Rattle.samples.specs.declared.phases.Anchor.{Anchor}
 use Rattle.samples.specs.declared.phases.Phase.{Phase}
 use Rattle.samples.specs.Tap.{mean}
-use Rattle.samples.specs.Phase.{pair, phases, phaseOf}
+use Rattle.samples.specs.Phase.{pair, phaseOf}
 use Rattle.samples.proofs.Reach.{mean-same}
+use Rattle.hpel.specs.declared.HpelAt.{HpelAt}
+use Rattle.hpel.specs.declared.HpelPair.{HpelPair}
 use Rattle.hpel.specs.Served.{atQuarter, lentTests, placeTests, refRefusal, qpelRefusal}
 use Rattle.hpel.specs.Lookup.{firstAt, inOrder, oneAt, twoAt, refAt, qpelAt}
 use Rattle.hpel.specs.Reading.{planeOf, refTail, qpelTails, anchorAt, hpelSample}
-
--- ---- full and half phases name one anchor twice
-
-even : (i j : ℕ) → i < 2 → j < 2 → phaseOf (i * 2) (j * 2) .p ≡ phaseOf (i * 2) (j * 2) .q
-unfolding phases
-even zero zero a b = refl
-even zero (suc zero) a b = refl
-even (suc zero) zero a b = refl
-even (suc zero) (suc zero) a b = refl
-even zero (suc (suc j)) a b = absurd (omega arith)
-even (suc zero) (suc (suc j)) a b = absurd (omega arith)
-even (suc (suc i)) j a b = absurd (omega arith)
+use Rattle.hpel.proofs.Laws.{one-anchor}
 
 phase-below : (z : ℤ) → phase z 4 < 4
 phase-below (pos n) = mod-lt n (omega arith)
 phase-below (negsuc n) = omega arith
-
-neither : (a b : Bool) → a || b ≡ false → (a ≡ false) × (b ≡ false)
-neither true b e = absurd (mathlib.Core.Bool.false≢true (sym e))
-neither false b e = (refl, e)
-
-halved : (a b : ℕ) → a < 4 → b < 4 → atQuarter a b ≡ false → (a ≡ a / 2 * 2) × (b ≡ b / 2 * 2) × (a / 2 < 2) × (b / 2 < 2)
-halved a b k l e =
-    let n = neither (eqb (a % 2) 1) (eqb (b % 2) 1) e in
-    let p = eqb-false (a % 2) 1 (n .0) in
-    let q = eqb-false (b % 2) 1 (n .1) in
-    (omega arith, omega arith, omega arith, omega arith)
-
-one-anchor : (mvx mvy : ℤ) → atQuarter (phase mvx 4) (phase mvy 4) ≡ false → let k = phaseOf (phase mvx 4) (phase mvy 4) in k .p ≡ k .q
-one-anchor mvx mvy e =
-    let h = halved (phase mvx 4) (phase mvy 4) (phase-below mvx) (phase-below mvy) e in
-    ap₂ (λ (a b : ℕ). phaseOf a b .p) (h .0) (h .1) ∙ even _ _ (h .2) (h .3) ∙ sym (ap₂ (λ (a b : ℕ). phaseOf a b .q) (h .0) (h .1))
 
 -- ---- samples of tails
 
@@ -70,6 +44,29 @@ either k g = go (ltb (k .q .kind) (k .p .kind))
     go : (b : Bool) → let o = cond b (pair (k .q) (k .p)) k in (g (o .p) + g (o .q) + 1) / 2 ≡ (g (k .p) + g (k .q) + 1) / 2
     go true = ap (λ (n : ℕ). n / 2) (omega arith)
     go false = refl
+
+-- ---- a lookup of numbers that did not refuse
+
+one-done : (r : ℕ) (a : Anchor) (pw : ℕ) (px py : ℤ) → oneAt r a pw px py .refusal ≡ 0 → (0 ≡ r) × (oneAt r a pw px py .stride ≡ pw)
+one-done zero a pw px py e = (refl, refl)
+one-done (suc n) a pw px py e = absurd (omega arith)
+
+two-done : (r : ℕ) (k : Phase) (pw : ℕ) (px py : ℤ) → twoAt r k pw px py .refusal ≡ 0 → (0 ≡ r) × (twoAt r k pw px py .stride ≡ pw)
+two-done zero k pw px py e = (refl, refl)
+two-done (suc n) k pw px py e = absurd (omega arith)
+
+module _ (f h v c w ht pad x0 y0 bw bh : ℕ) (mvx mvy : ℤ) where
+  pub ref-done : (k : HpelAt) → k ≡ refAt f h v c w ht pad x0 y0 bw bh mvx mvy → k .refusal ≡ 0
+      → (0 ≡ refRefusal f h v c w ht pad x0 y0 bw bh mvx mvy) × (k .stride ≡ wide w pad)
+  unfolding refAt
+  ref-done k e z = let d = one-done _ _ (wide w pad) _ _ (sym (ap (λ (t : HpelAt). t .refusal) e) ∙ z) in (d .0, ap (λ (t : HpelAt). t .stride) e ∙ d .1)
+
+  pub qpel-done : (k : HpelPair) → k ≡ qpelAt f h v c w ht pad x0 y0 bw bh mvx mvy → k .refusal ≡ 0
+      → (0 ≡ qpelRefusal f h v c w ht pad x0 y0 bw bh mvx mvy) × (k .stride ≡ wide w pad)
+  unfolding qpelAt
+  qpel-done k e z = let d = two-done _ _ (wide w pad) _ _ (sym (ap (λ (t : HpelPair). t .refusal) e) ∙ z) in (d .0, ap (λ (t : HpelPair). t .stride) e ∙ d .1)
+
+-- ---- THE VIEWS
 
 module _ (f h v c : List ℕ) (w ht pad x0 y0 bw bh : ℕ) (mvx mvy : ℤ) (x y : ℕ) where
   abbrev read : Anchor → ℕ
@@ -95,7 +92,7 @@ module _ (f h v c : List ℕ) (w ht pad x0 y0 bw bh : ℕ) (mvx mvy : ℤ) (x y 
       sample (after (t .refusal) [] (drop (t .offset) (planeOf f h v c (t .plane)))) (wide w pad) x y) (sym e)
       ∙ tail-reads (k .p)
       ∙ sym (mean-same (read (k .p)))
-      ∙ ap (λ (a : Anchor). mean (read (k .p)) (read a)) (one-anchor mvx mvy (whole e))
+      ∙ ap (λ (a : Anchor). mean (read (k .p)) (read a)) (one-anchor _ _ (phase-below mvx) (phase-below mvy) (whole e))
 
   pub qpel-view : 0 ≡ qpelRefusal (length f) (length h) (length v) (length c) w ht pad x0 y0 bw bh mvx mvy
       → let t = qpelTails f h v c w ht pad x0 y0 bw bh mvx mvy in
