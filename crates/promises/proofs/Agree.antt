@@ -43,7 +43,7 @@ module _ (pic : RefT (List ℕ)) (w ht x0 y0 bw bh : ℕ) (mvx mvy : ℤ) where
         → Answered (now (s .1 .1 .1 .1 .1 .1 .1 .1 .1 .1 .1 .1 .1 .0))
 
   -- the output is one in which the standard's block was drawn
-  drew : (l : List ℕ) → Answered l → (old : List ℕ) × Draws x0 y0 bw bh mvx mvy (now pic) w ht old l
+  pub drew : (l : List ℕ) → Answered l → (old : List ℕ) × Draws x0 y0 bw bh mvx mvy (now pic) w ht old l
   drew l (plainly κs o s a) = (now o, mc-luma-draws x0 y0 bw bh mvx mvy κs pic o w ht s a)
   drew l (by-margins pad stride buf o m κs s a) = (now o, mc-luma-padded-draws x0 y0 bw bh mvx mvy (now pic) _ buf o m κs s a)
   drew l (by-slices pad stride buf o m κs tile ga gb s a) = (now o, mc-luma-padded-slices-draws x0 y0 bw bh mvx mvy (now pic) _ buf o m κs tile ga gb s a)

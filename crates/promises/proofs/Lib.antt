@@ -6,3 +6,5 @@ pub mod Ends
 pub mod Made
 pub mod Routes
 pub mod Agree
+pub mod Views
+pub mod Reach
