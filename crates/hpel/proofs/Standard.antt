@@ -1,7 +1,7 @@
 -- Half-sample planes as built give the standard's luma samples: at each place of a block that they serve, at every phase. Assumes nothing.
 use mathlib.Core.Path.{_≡_, refl, sym, ap, ap₂, _∙_}
 use mathlib.Core.Bool.{Bool, true, false, _&&_}
-use mathlib.Core.List.{List, [], _∷_, _++_}
+use mathlib.Core.List.{List, [], _∷_}
 use Prim.Native.Nat.{ℕ, zero, suc, _+_, _*_, _≤_, _<_}
 use native.Mathlib.Omega.{arith}
 use lib.Dec.{eqb}
@@ -13,8 +13,7 @@ use Rattle.grid.specs.Block.{sample, drawn}
 use Rattle.grid.proofs.Fill.{drawn-sample}
 use Rattle.place.specs.Place.{floorZ, lumaPlace, phase}
 use Rattle.place.specs.Picture.{sampleAt, window}
-use Rattle.place.specs.Refusal.{short, lowest}
-use Rattle.place.proofs.Refused.{passed, both-inside, split-zero}
+use Rattle.place.proofs.Refused.{passed, both-inside}
 use Rattle.planes.specs.Planes.{wide, paddedAt, acrossAt, downAt, centreAt, paddedPlane}
 use Rattle.planes.proofs.Standard.{swap, full-standard, across-standard, down-standard, centre-standard}
 use Rattle.samples.specs.declared.phases.Anchor.{Anchor}
@@ -22,9 +21,10 @@ use Rattle.samples.specs.declared.phases.Phase.{Phase}
 use Rattle.samples.specs.Tap.{half, centre, mean}
 use Rattle.samples.specs.Phase.{Window, at, anchorOf, anchor, pair, phases, phaseOf, lumaSample}
 use Rattle.samples.proofs.Reach.{both, Near, phase-near}
-use Rattle.hpel.specs.Served.{atFull, before, beyond, lentTests, placeTests, refRefusal, qpelRefusal, blockRefusal}
+use Rattle.hpel.specs.Served.{before, beyond, lentTests, placeTests, refRefusal, qpelRefusal, blockRefusal}
 use Rattle.hpel.specs.Lookup.{firstAt}
 use Rattle.hpel.specs.Reading.{planeOf, anchorAt, hpelSample}
+use Rattle.hpel.proofs.Laws.{Passes, ref-passes, qpel-passes, block-passes}
 
 -- ---- places of a block that is served
 
@@ -45,14 +45,13 @@ pub record Serves (w ht pad x0 y0 bw bh : ℕ) (mvx mvy : ℤ) : Type 0 where
   pub columns : Fits (lumaPlace x0 mvx pad) bw (wide w pad)
   pub rows : Fits (lumaPlace y0 mvy pad) bh (wide ht pad)
 
--- THE LAWS OF 0
+-- so it is where no test held
 module _ (f h v c w ht pad x0 y0 bw bh : ℕ) (mvx mvy : ℤ) where
-  served : (unserved : Bool) → 0 ≡ lowest (lentTests f h v c w ht pad x0 y0 bw bh)
-      → 0 ≡ lowest (placeTests unserved (wide w pad) (wide ht pad) bw bh (lumaPlace x0 mvx pad) (lumaPlace y0 mvy pad)) → Serves w ht pad x0 y0 bw bh mvx mvy
+  served : (unserved : Bool) → Passes f h v c w ht pad x0 y0 bw bh mvx mvy unserved → Serves w ht pad x0 y0 bw bh mvx mvy
   unfolding lentTests placeTests
-  served unserved e k =
-      let s = both-inside 1 8192 w ht (passed _ _ _ e .0) in
-      let p1 = passed _ _ _ k in
+  served unserved e =
+      let s = both-inside 1 8192 w ht (passed _ _ _ (e .0) .0) in
+      let p1 = passed _ _ _ (e .1) in
       let p2 = passed _ _ _ (p1 .1) in
       let p3 = passed _ _ _ (p2 .1) in
       let p4 = passed _ _ _ (p3 .1) in
@@ -60,21 +59,13 @@ module _ (f h v c w ht pad x0 y0 bw bh : ℕ) (mvx mvy : ℤ) where
       record { w1 = s .0; h1 = s .2; columns = fits _ bw _ (p2 .0) (p4 .0); rows = fits _ bh _ (p3 .0) (p5 .0) }
 
   pub ref-served : 0 ≡ refRefusal f h v c w ht pad x0 y0 bw bh mvx mvy → Serves w ht pad x0 y0 bw bh mvx mvy
-  unfolding refRefusal lentTests
-  ref-served e = let t = split-zero (lentTests f h v c w ht pad x0 y0 bw bh) _ tt e in served _ (t .0) (t .1)
+  ref-served e = served _ (ref-passes f h v c w ht pad x0 y0 bw bh mvx mvy e)
 
   pub qpel-served : 0 ≡ qpelRefusal f h v c w ht pad x0 y0 bw bh mvx mvy → Serves w ht pad x0 y0 bw bh mvx mvy
-  unfolding qpelRefusal lentTests
-  qpel-served e = let t = split-zero (lentTests f h v c w ht pad x0 y0 bw bh) _ tt e in served _ (t .0) (t .1)
+  qpel-served e = served _ (qpel-passes f h v c w ht pad x0 y0 bw bh mvx mvy e)
 
   pub block-served : (out : ℕ) → 0 ≡ blockRefusal f h v c w ht pad x0 y0 bw bh mvx mvy out → Serves w ht pad x0 y0 bw bh mvx mvy
-  unfolding blockRefusal lentTests placeTests
-  block-served out e =
-      let tests = placeTests (atFull (phase mvx 4) (phase mvy 4)) (wide w pad) (wide ht pad) bw bh (lumaPlace x0 mvx pad) (lumaPlace y0 mvy pad) in
-      let a = split-zero (lentTests f h v c w ht pad x0 y0 bw bh ++ ((5, short out (bw * bh)) ∷ []) ++ tests) _ tt e in
-      let b = split-zero (lentTests f h v c w ht pad x0 y0 bw bh ++ ((5, short out (bw * bh)) ∷ [])) tests tt (a .0) in
-      let d = split-zero (lentTests f h v c w ht pad x0 y0 bw bh) ((5, short out (bw * bh)) ∷ []) tt (b .0) in
-      served _ (d .0) (b .1)
+  block-served out e = served _ (block-passes f h v c w ht pad x0 y0 bw bh mvx mvy out e .0)
 
 -- a sample's place in the plane, and in the picture, pad less
 shift : (x0 pad x d k : ℕ) (mv : ℤ) → lumaPlace x0 mv pad ≡ pos k → pos (k + (x + d)) -ℤ pos pad ≡ lumaPlace x0 mv x +ℤ pos d

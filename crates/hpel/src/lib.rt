@@ -57,11 +57,11 @@ fn in_order(k: Phase) -> Phase
 }
 
 // Where the samples of a full or half phase lie.
-pub fn hpel_ref_at<'a>(
-    f: &'a [u8],
-    h: &'a [u8],
-    v: &'a [u8],
-    c: &'a [u8],
+pub fn hpel_ref_at(
+    f: &[u8],
+    h: &[u8],
+    v: &[u8],
+    c: &[u8],
     cw: usize,
     ch: usize,
     pad: usize,
@@ -111,11 +111,11 @@ pub fn hpel_ref_at<'a>(
 }
 
 // Where the two samples that a quarter phase averages lie, in the plane order f, h, v, c.
-pub fn hpel_qpel_refs_at<'a>(
-    f: &'a [u8],
-    h: &'a [u8],
-    v: &'a [u8],
-    c: &'a [u8],
+pub fn hpel_qpel_refs_at(
+    f: &[u8],
+    h: &[u8],
+    v: &[u8],
+    c: &[u8],
     cw: usize,
     ch: usize,
     pad: usize,

@@ -10,13 +10,14 @@ use denote.Ref.{RefT, now}
 use contract.Lifetimes.{Lfts}
 use Rattle.grid.specs.Block.{block, drawn}
 use Rattle.grid.proofs.Fill.{block-length}
-use Rattle.margins.specs.declared.Geometry.{Geometry}
 use Rattle.luma.specs.Luma.{predictedLuma}
 use Rattle.luma.proofs.mc_luma.Reads as plain
 use Rattle.padded.proofs.mc_luma_padded.Reads as padded
 use Rattle.padded.proofs.mc_luma_padded_slices.Reads as slices
 use Rattle.padded.proofs.Only.{Block, Lent, out}
 use Rattle.lent.specs.Lent.{Predicted}
+use Rattle.hpel.proofs.Only.{Written}
+use Rattle.hpel.proofs.Only as calls
 use Rattle.hpel.proofs.hpel_block.Reads as hpel
 use Rattle.promises.specs.Made.{Margins, Derived}
 use Rattle.promises.proofs.BoundedCalls.{drawn-bounded, BoundedBlock, plainWindow}
@@ -39,8 +40,8 @@ module _ (pic : RefT (List ℕ)) (w ht x0 y0 bw bh : ℕ) (mvx mvy : ℤ) where
     by-record : (pad stride : ℕ) (buf : List ℕ) → Margins (now pic) w ht pad stride buf
         → (t a b o t′ a′ b′ o′ : List ℕ) → Predicted t a b buf stride pad w ht x0 y0 bw bh mvx mvy o t′ a′ b′ o′ 0 → Answered o′
     by-planes : (pad : ℕ) (f h v c : RefT (List ℕ)) → Derived (now pic) w ht pad (now f) (now h) (now v) (now c)
-        → (κs : Lfts 2) (o : RefT (List ℕ)) (s : _) → hpel.Post κs (f, (h, (v, (c, (w, (ht, (pad, (x0, (y0, (bw, (bh, (mvx, (mvy, (o, tt)))))))))))))) 0 s
-        → Answered (now (s .1 .1 .1 .1 .1 .1 .1 .1 .1 .1 .1 .1 .1 .0))
+        → (κs : Lfts 2) (o : RefT (List ℕ)) (s : Written) → hpel.Post κs (f, (h, (v, (c, (w, (ht, (pad, (x0, (y0, (bw, (bh, (mvx, (mvy, (o, tt)))))))))))))) 0 s
+        → Answered (calls.out s)
 
   -- the output is one in which the standard's block was drawn
   pub drew : (l : List ℕ) → Answered l → (old : List ℕ) × Draws x0 y0 bw bh mvx mvy (now pic) w ht old l

@@ -1,5 +1,4 @@
 -- Demand 3's premise follows from the contracts: a buffer that `expand_plane` left and planes that `build_hpel_planes` left are as made. Assumes nothing.
-use mathlib.Core.Path.{_≡_}
 use mathlib.Core.List.{List}
 use Prim.Native.Nat.{ℕ}
 use denote.Ref.{RefT, now}

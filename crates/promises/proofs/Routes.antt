@@ -1,9 +1,8 @@
 -- Demand 3's premise gives the standard's block: after the answer 0 each luma route's output is the old one with the block of the plain rule drawn into it. Assumes nothing.
-use mathlib.Core.Path.{_≡_, ap, ap₂, _∙_}
+use mathlib.Core.Path.{_≡_, sym, ap, ap₂, _∙_}
 use mathlib.Core.List.{List, [], _++_}
 use Prim.Native.Nat.{ℕ, _+_, _*_, _≤_, _<_}
-use native.Mathlib.Omega.{arith}
-use lib.IntN.{ℤ, pos, negsuc, _+ℤ_, _-ℤ_}
+use lib.IntN.{ℤ, pos, _+ℤ_, _-ℤ_}
 use lib.ListN.{length, getD}
 use denote.Ref.{RefT, now}
 use contract.Lifetimes.{Lfts}
@@ -11,11 +10,10 @@ use Rattle.grid.specs.Block.{sample, drawn}
 use Rattle.grid.proofs.Fill.{drawn-ext}
 use Rattle.place.specs.Place.{clampZ, lumaPlace, phase}
 use Rattle.place.specs.Picture.{sampleAt, window}
-use Rattle.place.proofs.Refused.{PaddedOk, padded-block-ok, split-zero}
 use Rattle.place.specs.Refusal.{paddedTests, blockTests, paddedBlockRefusal}
+use Rattle.place.proofs.Refused.{PaddedOk, padded-block-ok, split-zero}
 use Rattle.samples.specs.Tap.{mean}
 use Rattle.samples.proofs.Reach.{luma-six}
-use Rattle.margins.specs.Margin.{expanded}
 use Rattle.margins.specs.declared.Geometry.{Geometry}
 use Rattle.luma.specs.Luma.{predictedLuma}
 use Rattle.luma.proofs.mc_luma.Reads as plain
@@ -31,16 +29,14 @@ use Rattle.hpel.specs.declared.HpelPair.{HpelPair}
 use Rattle.hpel.specs.Reading.{contents, hpelSample}
 use Rattle.hpel.proofs.Standard.{Serves, ref-served, qpel-served, block-served, hpel-standard}
 use Rattle.hpel.proofs.Views.{ref-done, qpel-done, ref-view, qpel-view}
+use Rattle.hpel.proofs.Only.{Passed, Read, Written}
+use Rattle.hpel.proofs.Only as calls
 use Rattle.hpel.proofs.hpel_block.Reads as hpel
 use Rattle.hpel.proofs.hpel_ref_at.Reads as ref-at
 use Rattle.hpel.proofs.hpel_ref.Reads as ref
 use Rattle.hpel.proofs.hpel_qpel_refs_at.Reads as qpel-at
 use Rattle.hpel.proofs.hpel_qpel_refs.Reads as qpel
 use Rattle.promises.specs.Made.{Holds, Margins, Derived}
-
--- what is passed to the hpel calls
-abbrev pub Planes : Type 0 → Type 0
-Planes R = RefT (List ℕ) × (RefT (List ℕ) × (RefT (List ℕ) × (RefT (List ℕ) × (ℕ × (ℕ × (ℕ × (ℕ × (ℕ × (ℕ × (ℕ × (ℤ × (ℤ × R))))))))))))
 
 module _ (x0 y0 bw bh : ℕ) (mvx mvy : ℤ) where
   -- the block of the plain rule, drawn into a buffer
@@ -90,8 +86,8 @@ module _ (x0 y0 bw bh : ℕ) (mvx mvy : ℤ) where
 
   -- half-sample planes
   module _ (pic : List ℕ) (f h v c : RefT (List ℕ)) (w ht pad : ℕ) (d : Derived pic w ht pad (now f) (now h) (now v) (now c)) where
-    abbrev lent : {R : Type 0} → R → Planes R
-    lent r = (f, (h, (v, (c, (w, (ht, (pad, (x0, (y0, (bw, (bh, (mvx, (mvy, r)))))))))))))
+    abbrev lent : {Out : Type 0} → Out → Passed Out
+    lent o = (f, (h, (v, (c, (w, (ht, (pad, (x0, (y0, (bw, (bh, (mvx, (mvy, o)))))))))))))
 
     derived-sample : Serves w ht pad x0 y0 bw bh mvx mvy → (x y : ℕ) → x < bw → y < bh
         → hpelSample (now f) (now h) (now v) (now c) w pad x0 y0 mvx mvy x y ≡ predictedLuma pic w ht x0 y0 mvx mvy x y
@@ -99,24 +95,25 @@ module _ (x0 y0 bw bh : ℕ) (mvx mvy : ℤ) where
     derived-sample =
         hpel-standard pic w ht pad (now f) (now h) (now v) (now c) (d .f-was) (d .h-was) (d .v-was) (d .c-was) (d .full) (d .across) (d .down) (d .centre) x0 y0 bw bh mvx mvy
 
-    pub hpel-block-draws : (κs : Lfts 2) (o : RefT (List ℕ)) (s : _) → hpel.Post κs (lent (o, tt)) 0 s
-        → Draws pic w ht (now o) (now (s .1 .1 .1 .1 .1 .1 .1 .1 .1 .1 .1 .1 .1 .0))
+    pub hpel-block-draws : (κs : Lfts 2) (o : RefT (List ℕ)) (s : Written) → hpel.Post κs (lent (o, tt)) 0 s → Draws pic w ht (now o) (calls.out s)
     hpel-block-draws κs o s a = a .1 ∙ drawn-ext (now o) bw bh _ _ (derived-sample (block-served _ _ _ _ w ht pad x0 y0 bw bh mvx mvy _ (a .0)))
 
     -- the views, read with the stride of the lookup that did not refuse
-    pub hpel-ref-reads : (κs λs : Lfts 1) (k : HpelAt) (t : RefT (List ℕ)) (s s′ : _) → ref-at.Post κs (lent tt) k s → k .refusal ≡ 0 → ref.Post λs (lent tt) t s′
-        → (x y : ℕ) → x < bw → y < bh → sample (now t) (k .stride) x y ≡ predictedLuma pic w ht x0 y0 mvx mvy x y
+    pub hpel-ref-reads : (κs : Lfts 4) (λs : Lfts 1) (k : HpelAt) (t : RefT (List ℕ)) (s s′ : Read) → ref-at.Post κs (lent tt) k s → k .refusal ≡ 0
+        → ref.Post λs (lent tt) t s′ → (x y : ℕ) → x < bw → y < bh → sample (now t) (k .stride) x y ≡ predictedLuma pic w ht x0 y0 mvx mvy x y
     hpel-ref-reads κs λs k t s s′ a z b x y i j =
-        let n = ref-done _ _ _ _ w ht pad x0 y0 bw bh mvx mvy k a z in
-        ap₂ (λ (l : List ℕ) (m : ℕ). sample l m x y) b (n .1)
-        ∙ ref-view (now f) (now h) (now v) (now c) w ht pad x0 y0 bw bh mvx mvy x y (n .0)
+        let o = sym (ap (λ (u : HpelAt). u .refusal) a) ∙ z in
+        let n = ref-done _ _ _ _ w ht pad x0 y0 bw bh mvx mvy o in
+        ap₂ (λ (l : List ℕ) (m : ℕ). sample l m x y) b (ap (λ (u : HpelAt). u .stride) a ∙ n .1)
+        ∙ ref-view (now f) (now h) (now v) (now c) w ht pad x0 y0 bw bh mvx mvy x y o
         ∙ derived-sample (ref-served _ _ _ _ w ht pad x0 y0 bw bh mvx mvy (n .0)) x y i j
 
-    pub hpel-qpel-refs-reads : (κs λs : Lfts 1) (k : HpelPair) (t : List (RefT (List ℕ))) (s s′ : _) → qpel-at.Post κs (lent tt) k s → k .refusal ≡ 0 → qpel.Post λs (lent tt) t s′
-        → (x y : ℕ) → x < bw → y < bh
+    pub hpel-qpel-refs-reads : (κs : Lfts 4) (λs : Lfts 1) (k : HpelPair) (t : List (RefT (List ℕ))) (s s′ : Read) → qpel-at.Post κs (lent tt) k s → k .refusal ≡ 0
+        → qpel.Post λs (lent tt) t s′ → (x y : ℕ) → x < bw → y < bh
         → mean (sample (getD (contents t) 0 []) (k .stride) x y) (sample (getD (contents t) 1 []) (k .stride) x y) ≡ predictedLuma pic w ht x0 y0 mvx mvy x y
     hpel-qpel-refs-reads κs λs k t s s′ a z b x y i j =
-        let n = qpel-done _ _ _ _ w ht pad x0 y0 bw bh mvx mvy k a z in
-        ap₂ (λ (l : List (List ℕ)) (m : ℕ). mean (sample (getD l 0 []) m x y) (sample (getD l 1 []) m x y)) b (n .1)
-        ∙ qpel-view (now f) (now h) (now v) (now c) w ht pad x0 y0 bw bh mvx mvy x y (n .0)
+        let o = sym (ap (λ (u : HpelPair). u .refusal) a) ∙ z in
+        let n = qpel-done _ _ _ _ w ht pad x0 y0 bw bh mvx mvy o in
+        ap₂ (λ (l : List (List ℕ)) (m : ℕ). mean (sample (getD l 0 []) m x y) (sample (getD l 1 []) m x y)) b (ap (λ (u : HpelPair). u .stride) a ∙ n .1)
+        ∙ qpel-view (now f) (now h) (now v) (now c) w ht pad x0 y0 bw bh mvx mvy x y o
         ∙ derived-sample (qpel-served _ _ _ _ w ht pad x0 y0 bw bh mvx mvy (n .0)) x y i j

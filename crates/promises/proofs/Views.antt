@@ -1,7 +1,7 @@
 -- The hpel views with demand 3's premise: read with the stride they give the bytes that the luma routes write, bounded alike. Assumes nothing.
 use mathlib.Core.Path.{_≡_, sym, ap, subst, _∙_}
 use mathlib.Core.List.{List, []}
-use Prim.Native.Nat.{ℕ, _+_, _*_, _<_}
+use Prim.Native.Nat.{ℕ, _<_}
 use lib.IntN.{ℤ}
 use lib.ListN.{getD}
 use denote.Ref.{RefT, now}
@@ -14,6 +14,7 @@ use Rattle.luma.specs.Luma.{predictedLuma}
 use Rattle.hpel.specs.declared.HpelAt.{HpelAt}
 use Rattle.hpel.specs.declared.HpelPair.{HpelPair}
 use Rattle.hpel.specs.Reading.{contents}
+use Rattle.hpel.proofs.Only.{Read}
 use Rattle.hpel.proofs.hpel_ref_at.Reads as ref-at
 use Rattle.hpel.proofs.hpel_ref.Reads as ref
 use Rattle.hpel.proofs.hpel_qpel_refs_at.Reads as qpel-at
@@ -22,21 +23,21 @@ use Rattle.promises.specs.Bound.{Within, NearMean}
 use Rattle.promises.specs.Made.{Derived}
 use Rattle.promises.proofs.Bounds.{within, near-mean}
 use Rattle.promises.proofs.BoundedCalls.{plainWindow}
-use Rattle.promises.proofs.Routes.{Planes, hpel-ref-reads, hpel-qpel-refs-reads}
+use Rattle.promises.proofs.Routes.{hpel-ref-reads, hpel-qpel-refs-reads}
 use Rattle.promises.proofs.Agree.{Answered, drew}
 
 module _ (pic : RefT (List ℕ)) (w ht x0 y0 bw bh : ℕ) (mvx mvy : ℤ) where
-  abbrev lent : (pad : ℕ) (f h v c : RefT (List ℕ)) → Planes (Unit {0})
+  abbrev lent : (pad : ℕ) (f h v c : RefT (List ℕ)) → Read
   lent pad f h v c = (f, (h, (v, (c, (w, (ht, (pad, (x0, (y0, (bw, (bh, (mvx, (mvy, tt)))))))))))))
 
   -- A VIEW, on planes derived from the picture, of a block whose lookup did not refuse, gives these samples by column and row:
   -- the tail, read with the lookup's stride, and the mean of two tails
   pub data Viewed : (ℕ → ℕ → ℕ) → Type 0 where
     by-tail : (pad : ℕ) (f h v c : RefT (List ℕ)) → Derived (now pic) w ht pad (now f) (now h) (now v) (now c)
-        → (κs λs : Lfts 1) (k : HpelAt) (t : RefT (List ℕ)) (s s′ : _) → ref-at.Post κs (lent pad f h v c) k s → k .refusal ≡ 0
+        → (κs : Lfts 4) (λs : Lfts 1) (k : HpelAt) (t : RefT (List ℕ)) (s s′ : Read) → ref-at.Post κs (lent pad f h v c) k s → k .refusal ≡ 0
         → ref.Post λs (lent pad f h v c) t s′ → Viewed (sample (now t) (k .stride))
     by-tails : (pad : ℕ) (f h v c : RefT (List ℕ)) → Derived (now pic) w ht pad (now f) (now h) (now v) (now c)
-        → (κs λs : Lfts 1) (k : HpelPair) (t : List (RefT (List ℕ))) (s s′ : _) → qpel-at.Post κs (lent pad f h v c) k s → k .refusal ≡ 0
+        → (κs : Lfts 4) (λs : Lfts 1) (k : HpelPair) (t : List (RefT (List ℕ))) (s s′ : Read) → qpel-at.Post κs (lent pad f h v c) k s → k .refusal ≡ 0
         → qpel.Post λs (lent pad f h v c) t s′
         → Viewed (λ x y. mean (sample (getD (contents t) 0 []) (k .stride) x y) (sample (getD (contents t) 1 []) (k .stride) x y))
 
