@@ -1,5 +1,5 @@
 -- The hpel calls in the code's unsigned places: each test, what an answer of 0 tells, where the blocks lie, and what lookups and blocks are. Assumes nothing.
-use mathlib.Core.Path.{_≡_, refl, sym, ap, ap₂, _∙_, subst}
+use mathlib.Core.Path.{_≡_, refl, sym, ap, ap₂, _∙_}
 use mathlib.Core.Bool.{Bool, true, false, false≢true, cond, not, _&&_, _||_}
 use mathlib.Core.List.{List, [], _∷_, _++_}
 use mathlib.Core.Logic.{⊎-elim}
@@ -216,32 +216,45 @@ module _ (f h v c w ht pad x0 y0 bw bh : ℕ) where
     unfolding lentTests placeTests
     place-then out u m rest e b p = second (roomy out ++ at u) rest m tt (room-then out 0 (at u) e b p)
 
+    -- an answer of 0 says that no test of 1 to 4, nor of 6 by the place, held
+    abbrev pub Passes : (unserved : Bool) → Type 0
+    Passes unserved = (0 ≡ lowest lent) × (0 ≡ lowest (at unserved))
+
+    pub ref-passes : 0 ≡ refRefusal f h v c w ht pad x0 y0 bw bh mvx mvy → Passes (atQuarter (phase mvx 4) (phase mvy 4))
+    unfolding refRefusal lentTests
+    ref-passes e = split-zero lent (at (atQuarter (phase mvx 4) (phase mvy 4))) tt e
+
+    pub qpel-passes : 0 ≡ qpelRefusal f h v c w ht pad x0 y0 bw bh mvx mvy → Passes (not (atQuarter (phase mvx 4) (phase mvy 4)))
+    unfolding qpelRefusal lentTests
+    qpel-passes e = split-zero lent (at (not (atQuarter (phase mvx 4) (phase mvy 4)))) tt e
+
+    pub block-passes : (out : ℕ) → 0 ≡ blockRefusal f h v c w ht pad x0 y0 bw bh mvx mvy out → Passes (atFull (phase mvx 4) (phase mvy 4)) × (bw * bh ≤ out)
+    unfolding blockRefusal lentTests placeTests
+    block-passes out e =
+        let u = atFull (phase mvx 4) (phase mvy 4) in
+        let s = split-zero (roomy out ++ at u) ((6, atQuarter (phase mvx 4) (phase mvy 4) && badWidth bw) ∷ []) tt e in
+        let t = split-zero (roomy out) (at u) tt (s .0) in
+        let r = split-zero lent ((5, short out (bw * bh)) ∷ []) tt (t .0) in
+        ((r .0, t .1), ltb-false _ _ (passed _ _ _ (r .1) .0))
+
     abbrev pub Ok : Type 0
     Ok = LentOk f h v c w ht pad x0 y0 bw bh
         × PlaceOk (wide w pad) (wide ht pad) bw bh (x0 + up (2 ^ 31) mvx / 4 + pad) (y0 + up (2 ^ 31) mvy / 4 + pad)
 
     module _ (p : mag mvx < 2 ^ 31) (q : mag mvy < 2 ^ 31) where
-      ok : (unserved : Bool) → 0 ≡ lowest lent → 0 ≡ lowest (at unserved) → Ok
-      ok u a b =
+      ok : (unserved : Bool) → Passes unserved → Ok
+      ok u a =
           let t = up-tests u (wide w pad) (wide ht pad) bw bh x0 y0 pad mvx mvy p q refl refl in
-          (lent-ok f h v c w ht pad x0 y0 bw bh a, place-ok u (wide w pad) (wide ht pad) bw bh _ _ (b ∙ ap lowest (sym t)))
+          (lent-ok f h v c w ht pad x0 y0 bw bh (a .0), place-ok u (wide w pad) (wide ht pad) bw bh _ _ (a .1 ∙ ap lowest (sym t)))
 
       pub ref-ok : 0 ≡ refRefusal f h v c w ht pad x0 y0 bw bh mvx mvy → Ok
-      unfolding refRefusal lentTests
-      ref-ok e = let s = split-zero lent (at (atQuarter (phase mvx 4) (phase mvy 4))) tt e in ok _ (s .0) (s .1)
+      ref-ok e = ok _ (ref-passes e)
 
       pub qpel-ok : 0 ≡ qpelRefusal f h v c w ht pad x0 y0 bw bh mvx mvy → Ok
-      unfolding qpelRefusal lentTests
-      qpel-ok e = let s = split-zero lent (at (not (atQuarter (phase mvx 4) (phase mvy 4)))) tt e in ok _ (s .0) (s .1)
+      qpel-ok e = ok _ (qpel-passes e)
 
       pub block-ok : (out : ℕ) → 0 ≡ blockRefusal f h v c w ht pad x0 y0 bw bh mvx mvy out → Ok × (bw * bh ≤ out)
-      unfolding blockRefusal lentTests placeTests
-      block-ok out e =
-          let u = atFull (phase mvx 4) (phase mvy 4) in
-          let s = split-zero (roomy out ++ at u) ((6, atQuarter (phase mvx 4) (phase mvy 4) && badWidth bw) ∷ []) tt e in
-          let t = split-zero (roomy out) (at u) tt (s .0) in
-          let r = split-zero lent ((5, short out (bw * bh)) ∷ []) tt (t .0) in
-          (ok u (r .0) (t .1), ltb-false _ _ (passed _ _ _ (r .1) .0))
+      block-ok out e = let s = block-passes out e in (ok _ (s .0), s .1)
 
       -- an anchor's rows lie within its plane
       pub rows-in : (a : Anchor) → Near a → Ok → firstAt a (wide w pad) (lumaPlace x0 mvx pad) (lumaPlace y0 mvy pad) + (bh - 1) * wide w pad + bw ≤ wide w pad * wide ht pad

@@ -132,7 +132,7 @@ module _ (f : List ℕ) (pw ph x y n : ℕ) (W : ℕ → Window)
 
 -- ---- a buffer that a plane was drawn into reads as the plane alone
 
-clamped : (z : ℤ) (n : ℕ) → 0 < n → clampZ z n < n
+pub clamped : (z : ℤ) (n : ℕ) → 0 < n → clampZ z n < n
 clamped (pos k) n b = omega arith
 clamped (negsuc k) n b = omega arith
 

@@ -1,3 +1,4 @@
 pub mod Exact
 pub mod Bound
+pub mod Made
 pub mod Determined
