@@ -146,6 +146,12 @@ place-ok u pw ph bw bh x y e =
     let p5 = passed _ _ _ (p4 .1) in
     record { left = ltb-false _ _ (p2 .0); above = ltb-false _ _ (p3 .0); right = ltb-false _ _ (p4 .0); below = ltb-false _ _ (p5 .0) }
 
+-- what `first_at` requires
+pub first-asks : (f h v c w ht pad x0 y0 bw bh : ℕ) {m n x y : ℕ} → m ≡ x → n ≡ y
+    → LentOk f h v c w ht pad x0 y0 bw bh × PlaceOk (wide w pad) (wide ht pad) bw bh (x + pad) (y + pad) → (a : Anchor) → Near a
+    → (2 ^ 29 ≤ m + pad) × (2 ^ 29 ≤ n + pad) × (m + pad ≤ 2 ^ 31) × (n + pad ≤ 2 ^ 31) × (wide w pad ≤ 8448) × (a .dx ≤ 1) × (a .dy ≤ 1)
+first-asks f h v c w ht pad x0 y0 bw bh e g k a near = omega (arith, e, g, k, near)
+
 -- ---- planes, and where a block lies in them
 
 pub plane-last : (f h v c : List ℕ) (n : ℕ) → 2 < n → planeOf f h v c n ≡ c
@@ -321,6 +327,10 @@ module _ (f h v c : List ℕ) where
           (λ i. tail-is (k .refusal) (k .«plane_a») (k .«offset_a») z p q i ∷ tail-is (k .refusal) (k .«plane_b») (k .«offset_b») z r o i ∷ []) ∙ ap two e
 
 -- ---- blocks
+
+-- a width by its literal
+pub as-wide : {d : List ℕ} {m n : ℕ} (out : List ℕ) (h : ℕ) (g : ℕ → ℕ → ℕ) → m ≡ n → d ≡ drawn out n h g → d ≡ drawn out m h g
+as-wide out h g e p = p ∙ ap (λ (w : ℕ). drawn out w h g) (sym e)
 
 -- an even component is 0 or 2
 even : (P : ℕ → Type 0) (n : ℕ) → n < 4 → eqb (n % 2) 1 ≡ false → P 0 → P 2 → P n

@@ -14,7 +14,7 @@ use Rattle.samples.specs.declared.phases.Phase.{Phase}
 use Rattle.samples.specs.Phase.{phaseOf}
 use Rattle.samples.proofs.Reach.{Near, phase-near}
 use Rattle.hpel.specs.Served.{blockRefusal}
-use Rattle.hpel.proofs.Laws.{Ok, block-ok, place-is, one-anchor, rows-room, averaged, copied}
+use Rattle.hpel.proofs.Laws.{Ok, block-ok, place-is, first-asks, one-anchor, rows-room, averaged, copied}
 use Rattle.hpel.proofs.hpel_block.Statement.{statement}
 use Rattle.hpel.proofs.hpel_block.Tie as tie
 
@@ -93,24 +93,20 @@ hpel-block-spec =
     (λ c κs. search needs)
     (λ c κs. search needs)
     (λ c κs. search needs)
-    (λ c. omega (arith, ok (c .before .before .before .before .before)))
-    (λ c. omega (arith, ok (c .before .before .before .before .before)))
-    (λ c κs. omega (arith, ok (c .before .before .before .before .before)))
-    (λ c. omega (arith, ok (c .before .before .before .before .before .before)))
-    (λ c κs. omega (arith, ok (c .before .before .before .before .before .before)))
-    (λ c. omega (arith, ok (c .before .before .before .before .before .before .before)))
+    (λ c. let k = ok (c .before .before .before .before .before) .0 .0 in omega (arith, k .pad2))
+    (λ c. let k = ok (c .before .before .before .before .before) .0 .0 in omega (arith, k .w2, k .pad2))
+    (λ c κs. let k = ok (c .before .before .before .before .before) .0 .0 in omega (arith, k .x2))
+    (λ c. let k = ok (c .before .before .before .before .before .before) .0 .0 in omega (arith, k .pad2))
+    (λ c κs. let k = ok (c .before .before .before .before .before .before) .0 .0 in omega (arith, k .y2))
+    (λ c. let k = ok (c .before .before .before .before .before .before .before) .0 .0 in omega (arith, k .pad2))
     (λ c. search needs)
     (λ c κs. search needs)
-    (λ c κs.
-    let k = c .before .before in
-    omega (arith, ok (served k), spot k, near (looks k)))
+    (λ c κs. let k = c .before .before in first-asks _ _ _ _ _ _ _ _ _ _ _ (spot k .0) (spot k .1) (ok (served k) .0) (looks k .phase-at .result .p) (near (looks k) .0))
     (λ c κs. search needs)
     (λ c. search needs)
     (λ c κs. search needs)
-    (λ c κs.
-    let k = place1 (c .before .before .before .before) in
-    omega (arith, ok (served k), spot k, near (looks k)))
-    (λ c κs. omega (arith, ok (served (place2 (c .before))), room1 (c .before .before .before .before .before .before), room2 (c .before)))
+    (λ c κs. let k = place1 (c .before .before .before .before) in first-asks _ _ _ _ _ _ _ _ _ _ _ (spot k .0) (spot k .1) (ok (served k) .0) (looks k .phase-at .result .q) (near (looks k) .1))
+    (λ c κs. let k = ok (served (place2 (c .before))) in (room1 (c .before .before .before .before .before .before), room2 (c .before), k .0 .0 .bw2, k .1))
     (λ c. search needs)
     (λ c.
     let r = c .before .before in
@@ -121,7 +117,7 @@ hpel-block-spec =
       averaged _ _ _ _ _ _ _ _ _ _ (place k .0) (place k .1) _ _ _ _ (looked (looks k)) (g .before .before .before .before .before .before .choose .ensures, g .before .before .before .before .before .first-at .ensures)
           (g .before .choose2 .ensures, g .first-at2 .ensures) (r .average-block .ensures),
     ))
-    (λ c κs. omega (arith, ok (served (place1 (c .before .before .before))), room1 (c .before .before .before)))
+    (λ c κs. let k = ok (served (place1 (c .before .before .before))) in (room1 (c .before .before .before), k .0 .0 .bw2, k .1))
     (λ c. search needs)
     (λ c.
     let r = c .before .before in

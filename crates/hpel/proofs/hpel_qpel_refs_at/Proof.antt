@@ -12,7 +12,7 @@ use Rattle.samples.specs.Phase.{phaseOf}
 use Rattle.samples.proofs.Reach.{Near, phase-near}
 use Rattle.hpel.specs.Served.{qpelRefusal}
 use Rattle.hpel.specs.Lookup.{inOrder, qpelAt}
-use Rattle.hpel.proofs.Laws.{Ok, qpel-ok, place-is, order-near, two-refused, two-served}
+use Rattle.hpel.proofs.Laws.{Ok, qpel-ok, place-is, first-asks, order-near, two-refused, two-served}
 use Rattle.hpel.proofs.hpel_qpel_refs_at.Statement.{statement}
 use Rattle.hpel.proofs.hpel_qpel_refs_at.Tie as tie
 
@@ -58,20 +58,20 @@ hpel-qpel-refs-at-spec =
     (λ c κs. search needs)
     (λ c κs. search needs)
     (λ c κs. search needs)
-    (λ c. omega (arith, ok (c .before .before .before .before .before .before)))
-    (λ c. omega (arith, ok (c .before .before .before .before .before .before)))
-    (λ c κs. omega (arith, ok (c .before .before .before .before .before .before)))
-    (λ c. omega (arith, ok (c .before .before .before .before .before .before .before)))
-    (λ c κs. omega (arith, ok (c .before .before .before .before .before .before .before)))
-    (λ c. omega (arith, ok (c .before .before .before .before .before .before .before .before)))
+    (λ c. let k = ok (c .before .before .before .before .before .before) .0 in omega (arith, k .pad2))
+    (λ c. let k = ok (c .before .before .before .before .before .before) .0 in omega (arith, k .w2, k .pad2))
+    (λ c κs. let k = ok (c .before .before .before .before .before .before) .0 in omega (arith, k .x2))
+    (λ c. let k = ok (c .before .before .before .before .before .before .before) .0 in omega (arith, k .pad2))
+    (λ c κs. let k = ok (c .before .before .before .before .before .before .before) .0 in omega (arith, k .y2))
+    (λ c. let k = ok (c .before .before .before .before .before .before .before .before) .0 in omega (arith, k .pad2))
     (λ c. search needs)
     (λ c. search needs)
     (λ c κs.
     let l = c .before .before .before .before .before .before in
-    omega (arith, ok (l .before .before .before .before), spot (c .before .before), near l))
+    let k = c .before .before in first-asks _ _ _ _ _ _ _ _ _ _ _ (spot k .0) (spot k .1) (ok (l .before .before .before .before)) (l .in-order .result .p) (near l .0))
     (λ c κs.
     let l = c .before .before .before .before .before .before .before in
-    omega (arith, ok (l .before .before .before .before), spot (c .before .before .before), near l))
+    let k = c .before .before .before in first-asks _ _ _ _ _ _ _ _ _ _ _ (spot k .0) (spot k .1) (ok (l .before .before .before .before)) (l .in-order .result .q) (near l .1))
     (λ c.
     let k = c .before .before .before .before in
     let l = k .before .before .before .before in

@@ -13,7 +13,7 @@ use Rattle.samples.specs.Phase.{phaseOf}
 use Rattle.samples.proofs.Reach.{Near, phase-near}
 use Rattle.hpel.specs.Served.{refRefusal}
 use Rattle.hpel.specs.Lookup.{refAt}
-use Rattle.hpel.proofs.Laws.{Ok, ref-ok, place-is, one-refused, one-served}
+use Rattle.hpel.proofs.Laws.{Ok, ref-ok, place-is, first-asks, one-refused, one-served}
 use Rattle.hpel.proofs.hpel_ref_at.Statement.{statement}
 use Rattle.hpel.proofs.hpel_ref_at.Tie as tie
 
@@ -32,10 +32,9 @@ ok c = let s = entry (c .before) in ref-ok _ _ _ _ _ _ _ _ _ _ _ _ _ (s .fits .m
 -- the phase's anchors, and the place
 looked : (k : tie.After-phase-at) → let a = entry (k .before .before .before .before) .args in k .phase-at .result ≡ phaseOf (phase (a .mvx) 4) (phase (a .mvy) 4)
 looked k =
-    let s = entry (k .before .before .before .before) in
-    let x = toZ-ofZ (s .fits .mvx) in
-    let y = toZ-ofZ (s .fits .mvy) in
-    cc
+    let f = k .before in
+    let s = entry (f .before .before .before) in
+    k .phase-at .ensures ∙ ap₂ phaseOf (simp (toZ-ofZ (s .fits .mvx)) at (f .before .luma-phase .ensures .0)) (simp (toZ-ofZ (s .fits .mvy)) at (f .luma-phase2 .ensures .0))
 
 spot : (k : tie.After-luma-at2) → let a = entry (k .before .before .before .before .before .before .before) .args in
     (k .before .luma-at .result ≡ a .x0 + up (2 ^ 31) (a .mvx) / 4) × (k .luma-at2 .result ≡ a .y0 + up (2 ^ 31) (a .mvy) / 4)
@@ -56,16 +55,16 @@ hpel-ref-at-spec =
     (λ c κs. search needs)
     (λ c κs. search needs)
     (λ c κs. search needs)
-    (λ c. omega (arith, ok (c .before .before .before .before)))
-    (λ c. omega (arith, ok (c .before .before .before .before)))
-    (λ c κs. omega (arith, ok (c .before .before .before .before)))
-    (λ c. omega (arith, ok (c .before .before .before .before .before)))
-    (λ c κs. omega (arith, ok (c .before .before .before .before .before)))
-    (λ c. omega (arith, ok (c .before .before .before .before .before .before)))
+    (λ c. let k = ok (c .before .before .before .before) .0 in omega (arith, k .pad2))
+    (λ c. let k = ok (c .before .before .before .before) .0 in omega (arith, k .w2, k .pad2))
+    (λ c κs. let k = ok (c .before .before .before .before) .0 in omega (arith, k .x2))
+    (λ c. let k = ok (c .before .before .before .before .before) .0 in omega (arith, k .pad2))
+    (λ c κs. let k = ok (c .before .before .before .before .before) .0 in omega (arith, k .y2))
+    (λ c. let k = ok (c .before .before .before .before .before .before) .0 in omega (arith, k .pad2))
     (λ c. search needs)
     (λ c κs.
     let l = c .before .before .before .before in
-    omega (arith, ok (l .before .before .before), spot (c .before), near l))
+    let k = c .before in first-asks _ _ _ _ _ _ _ _ _ _ _ (spot k .0) (spot k .1) (ok (l .before .before .before)) (l .phase-at .result .p) (near l .0))
     (λ c.
     let k = c .before .before in
     let l = k .before .before .before in
