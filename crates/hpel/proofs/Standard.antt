@@ -33,7 +33,7 @@ pub record Fits (p : ℤ) (b n : ℕ) : Type 0 where
   pub from : p ≡ pos (mag p)
   pub to : mag p + b + 1 ≤ n
 
-pub fits : (p : ℤ) (b n : ℕ) → before p ≡ false → beyond p b n ≡ false → Fits p b n
+fits : (p : ℤ) (b n : ℕ) → before p ≡ false → beyond p b n ≡ false → Fits p b n
 unfolding before beyond
 fits (pos k) b n l r = record { from = refl; to = omega (arith, ltb-false n (k + (b + 1)) r) }
 fits (negsuc k) b n l r = absurd (mathlib.Core.Bool.false≢true (sym l))

@@ -1,5 +1,4 @@
--- The views, read with the stride, give what the block gives, whatever the planes hold: the tail of a full or half phase itself,
--- the two tails of a quarter phase their mean. Assumes nothing.
+-- The views, read with the stride, give what the block gives, whatever the planes hold: the tail of a full or half phase itself, the two tails of a quarter phase their mean. Assumes nothing.
 use mathlib.Core.Path.{_≡_, refl, sym, ap, ap₂, _∙_}
 use mathlib.Core.Bool.{Bool, true, false, cond}
 use Prim.Native.Nat.{ℕ, zero, suc, _+_, _/_, _<_}

@@ -1,5 +1,4 @@
--- What `build_hpel_planes` leaves is the standard's: at each place of f, h, v and c the full, across, down and centre sample of the picture itself,
--- because clamping into the padded picture and then into the picture is clamping into the picture. Assumes nothing.
+-- What `build_hpel_planes` leaves is the standard's: at each place of f, h, v and c the full, across, down and centre sample of the picture itself, because clamping into the padded picture and then into the picture is clamping into the picture. Assumes nothing.
 use mathlib.Core.Path.{_≡_, sym, ap, ap₂, _∙_}
 use mathlib.Core.List.{List}
 use Prim.Native.Nat.{ℕ, _+_, _*_, _-_, _≤_, min}

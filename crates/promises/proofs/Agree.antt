@@ -1,5 +1,4 @@
--- DEMAND 3: all luma routes that answer for a block, from one picture and planes made from it, give the same bytes, the standard's,
--- and each byte is bounded by the window of that picture. Assumes nothing.
+-- DEMAND 3: all luma routes that answer for a block, from one picture and planes made from it, give the same bytes, the standard's, and each byte is bounded by the window of that picture. Assumes nothing.
 use mathlib.Core.Path.{_≡_, sym, ap, _∙_}
 use mathlib.Core.List.{List}
 use Prim.Native.Nat.{ℕ, _*_}

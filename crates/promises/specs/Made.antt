@@ -1,5 +1,4 @@
--- Demand 3's premise, said once: margins and derived planes were made from the same unchanged picture, the one lent to the plain route,
--- with the call's own sides, pad and stride, and stand as made. Assumes nothing.
+-- Demand 3's premise, said once: margins and derived planes were made from the same unchanged picture, the one lent to the plain route, with the call's own sides, pad and stride, and stand as made. Assumes nothing.
 use mathlib.Core.Path.{_≡_}
 use mathlib.Core.List.{List}
 use Prim.Native.Nat.{ℕ, _<_}
