@@ -99,7 +99,7 @@ module _ (x0 y0 bw bh : ℕ) (mvx mvy : ℤ) where
     hpel-block-draws κs o s a = a .1 ∙ drawn-ext (now o) bw bh _ _ (derived-sample (block-served _ _ _ _ w ht pad x0 y0 bw bh mvx mvy _ (a .0)))
 
     -- the views, read with the stride of the lookup that did not refuse
-    pub hpel-ref-reads : (κs : Lfts 4) (λs : Lfts 1) (k : HpelAt) (t : RefT (List ℕ)) (s s′ : Read) → ref-at.Post κs (lent tt) k s → k .refusal ≡ 0
+    pub hpel-ref-reads : (κs : Lfts 1) (λs : Lfts 1) (k : HpelAt) (t : RefT (List ℕ)) (s s′ : Read) → ref-at.Post κs (lent tt) k s → k .refusal ≡ 0
         → ref.Post λs (lent tt) t s′ → (x y : ℕ) → x < bw → y < bh → sample (now t) (k .stride) x y ≡ predictedLuma pic w ht x0 y0 mvx mvy x y
     hpel-ref-reads κs λs k t s s′ a z b x y i j =
         let o = sym (ap (λ (u : HpelAt). u .refusal) a) ∙ z in
@@ -108,7 +108,7 @@ module _ (x0 y0 bw bh : ℕ) (mvx mvy : ℤ) where
         ∙ ref-view (now f) (now h) (now v) (now c) w ht pad x0 y0 bw bh mvx mvy x y o
         ∙ derived-sample (ref-served _ _ _ _ w ht pad x0 y0 bw bh mvx mvy (n .0)) x y i j
 
-    pub hpel-qpel-refs-reads : (κs : Lfts 4) (λs : Lfts 1) (k : HpelPair) (t : List (RefT (List ℕ))) (s s′ : Read) → qpel-at.Post κs (lent tt) k s → k .refusal ≡ 0
+    pub hpel-qpel-refs-reads : (κs : Lfts 1) (λs : Lfts 1) (k : HpelPair) (t : List (RefT (List ℕ))) (s s′ : Read) → qpel-at.Post κs (lent tt) k s → k .refusal ≡ 0
         → qpel.Post λs (lent tt) t s′ → (x y : ℕ) → x < bw → y < bh
         → mean (sample (getD (contents t) 0 []) (k .stride) x y) (sample (getD (contents t) 1 []) (k .stride) x y) ≡ predictedLuma pic w ht x0 y0 mvx mvy x y
     hpel-qpel-refs-reads κs λs k t s s′ a z b x y i j =

@@ -34,10 +34,10 @@ module _ (pic : RefT (List ℕ)) (w ht x0 y0 bw bh : ℕ) (mvx mvy : ℤ) where
   -- the tail, read with the lookup's stride, and the mean of two tails
   pub data Viewed : (ℕ → ℕ → ℕ) → Type 0 where
     by-tail : (pad : ℕ) (f h v c : RefT (List ℕ)) → Derived (now pic) w ht pad (now f) (now h) (now v) (now c)
-        → (κs : Lfts 4) (λs : Lfts 1) (k : HpelAt) (t : RefT (List ℕ)) (s s′ : Read) → ref-at.Post κs (lent pad f h v c) k s → k .refusal ≡ 0
+        → (κs : Lfts 1) (λs : Lfts 1) (k : HpelAt) (t : RefT (List ℕ)) (s s′ : Read) → ref-at.Post κs (lent pad f h v c) k s → k .refusal ≡ 0
         → ref.Post λs (lent pad f h v c) t s′ → Viewed (sample (now t) (k .stride))
     by-tails : (pad : ℕ) (f h v c : RefT (List ℕ)) → Derived (now pic) w ht pad (now f) (now h) (now v) (now c)
-        → (κs : Lfts 4) (λs : Lfts 1) (k : HpelPair) (t : List (RefT (List ℕ))) (s s′ : Read) → qpel-at.Post κs (lent pad f h v c) k s → k .refusal ≡ 0
+        → (κs : Lfts 1) (λs : Lfts 1) (k : HpelPair) (t : List (RefT (List ℕ))) (s s′ : Read) → qpel-at.Post κs (lent pad f h v c) k s → k .refusal ≡ 0
         → qpel.Post λs (lent pad f h v c) t s′
         → Viewed (λ x y. mean (sample (getD (contents t) 0 []) (k .stride) x y) (sample (getD (contents t) 1 []) (k .stride) x y))
 
