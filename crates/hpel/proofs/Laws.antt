@@ -21,7 +21,7 @@ use Rattle.place.specs.Outcome.{after}
 use Rattle.place.specs.Place.{lumaPlace, phase}
 use Rattle.place.specs.Refusal.{short, lowest}
 use Rattle.place.proofs.CoordLaws.{luma-up}
-use Rattle.place.proofs.Refused.{kept, miss, none, second, split-zero, passed, both-inside, both-below}
+use Rattle.place.proofs.Refused.{kept, miss, first, none, second, split-zero, passed, both-inside, both-below}
 use Rattle.planes.specs.Planes.{wide}
 use Rattle.samples.specs.declared.phases.Anchor.{Anchor}
 use Rattle.samples.specs.declared.phases.Phase.{Phase}
@@ -137,7 +137,7 @@ pub record PlaceOk (pw ph bw bh x y : ℕ) : Type 0 where
   pub right : x + bw + 1 ≤ pw + 2 ^ 29
   pub below : y + bh + 1 ≤ ph + 2 ^ 29
 
-pub place-ok : (unserved : Bool) (pw ph bw bh x y : ℕ) → 0 ≡ lowest (upTests unserved pw ph bw bh x y) → PlaceOk pw ph bw bh x y
+place-ok : (unserved : Bool) (pw ph bw bh x y : ℕ) → 0 ≡ lowest (upTests unserved pw ph bw bh x y) → PlaceOk pw ph bw bh x y
 place-ok u pw ph bw bh x y e =
     let p1 = passed _ _ _ e in
     let p2 = passed _ _ _ (p1 .1) in
@@ -161,15 +161,17 @@ plane-last f h v c (suc (suc zero)) b = absurd (omega arith)
 plane-last f h v c (suc (suc (suc n))) b = refl
 
 -- what has room in each has room in the one that is named
-pub plane-room : (f h v c : List ℕ) (m n : ℕ) → m ≤ length f → m ≤ length h → m ≤ length v → m ≤ length c → m ≤ length (planeOf f h v c n)
+plane-room : (f h v c : List ℕ) (m n : ℕ) → m ≤ length f → m ≤ length h → m ≤ length v → m ≤ length c → m ≤ length (planeOf f h v c n)
 plane-room f h v c m zero a b d e = a
 plane-room f h v c m (suc zero) a b d e = b
 plane-room f h v c m (suc (suc zero)) a b d e = d
 plane-room f h v c m (suc (suc (suc n))) a b d e = e
 
+-- what is left from `at` on, to its end
 pub tail-in : (l : List ℕ) (at : ℕ) → take (length l - at) (drop at l) ≡ drop at l
 tail-in l at = take-all (length l - at) (drop at l) (rw length-drop (omega arith))
 
+-- where an anchor's samples begin, of a place that is 2^29 up
 pub first-up : (a : Anchor) (pw x y : ℕ) → 2 ^ 29 ≤ x → 2 ^ 29 ≤ y
     → (y - 2 ^ 29 + a .dy) * pw + (x - 2 ^ 29 + a .dx) ≡ firstAt a pw (subℕ x (2 ^ 29)) (subℕ y (2 ^ 29))
 unfolding firstAt
@@ -216,6 +218,10 @@ module _ (f h v c w ht pad x0 y0 bw bh : ℕ) where
     unfolding lentTests placeTests
     place-then out u m rest e b p = second (roomy out ++ at u) rest m tt (room-then out 0 (at u) e b p)
 
+    -- an answer of those before the place's
+    pub sooner : (out : ℕ) (unserved : Bool) (m : ℕ) (rest : List (ℕ × Bool)) → m ≡ lowest (roomy out) → (m ≡ 0 → ⊥) → m ≡ lowest (roomy out ++ at unserved ++ rest)
+    sooner out u m rest e n = first (roomy out ++ at u) rest m (first (roomy out) (at u) m e n) n
+
     -- an answer of 0 says that no test of 1 to 4, nor of 6 by the place, held
     abbrev pub Passes : (unserved : Bool) → Type 0
     Passes unserved = (0 ≡ lowest lent) × (0 ≡ lowest (at unserved))
@@ -257,7 +263,7 @@ module _ (f h v c w ht pad x0 y0 bw bh : ℕ) where
       block-ok out e = let s = block-passes out e in (ok _ (s .0), s .1)
 
       -- an anchor's rows lie within its plane
-      pub rows-in : (a : Anchor) → Near a → Ok → firstAt a (wide w pad) (lumaPlace x0 mvx pad) (lumaPlace y0 mvy pad) + (bh - 1) * wide w pad + bw ≤ wide w pad * wide ht pad
+      rows-in : (a : Anchor) → Near a → Ok → firstAt a (wide w pad) (lumaPlace x0 mvx pad) (lumaPlace y0 mvy pad) + (bh - 1) * wide w pad + bw ≤ wide w pad * wide ht pad
       rows-in a n k =
           let x = x0 + up (2 ^ 31) mvx / 4 + pad in
           let y = y0 + up (2 ^ 31) mvy / 4 + pad in

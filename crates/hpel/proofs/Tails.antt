@@ -50,6 +50,10 @@ module _ (f h v c : List ℕ) (w ht pad x0 y0 bw bh : ℕ) (mvx mvy : ℤ) where
   abbrev pub view2 : List ℕ
   view2 = getD (qpelTails f h v c w ht pad x0 y0 bw bh mvx mvy) 1 []
 
+  pub two-views : qpelTails f h v c w ht pad x0 y0 bw bh mvx mvy ≡ view1 ∷ view2 ∷ []
+  unfolding qpelTails
+  two-views = refl
+
   -- where an anchor's samples begin, and its plane from there on
   abbrev first : Anchor → ℕ
   first a = firstAt a (wide w pad) (lumaPlace x0 mvx pad) (lumaPlace y0 mvy pad)

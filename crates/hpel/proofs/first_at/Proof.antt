@@ -1,6 +1,6 @@
 -- `hpel::first_at` meets its contract: a place that is not negative is its size. Assumes nothing.
 use borrow.Author.Needs.{needs}
-use Prim.Native.Nat.{ℕ, _+_, _-_, _*_, _≤_}
+use Prim.Native.Nat.{_+_, _-_, _*_, _≤_}
 use native.Mathlib.Omega.{arith}
 use Rattle.place.proofs.Refused.{area}
 use Rattle.hpel.proofs.Laws.{first-up}

@@ -3,7 +3,6 @@ use borrow.Author.Needs.{needs}
 use mathlib.Core.Path.{_≡_, sym, ap₂, _∙_}
 use mathlib.Core.Bool.{_&&_}
 use mathlib.Core.List.{[]}
-use Prim.Native.Nat.{_*_}
 use native.Mathlib.Omega.{arith}
 use borrow.Author.Tests.{lt-ltb}
 use mir.Facts.{toZ-ofZ}
@@ -12,7 +11,7 @@ use Rattle.place.specs.Refusal.{lowest}
 use Rattle.place.proofs.Refused.{hit, miss, none, first, area}
 use Rattle.planes.specs.Planes.{wide}
 use Rattle.hpel.specs.Served.{atFull, atQuarter, badWidth, lentTests, placeTests, blockRefusal}
-use Rattle.hpel.proofs.Laws.{LentOk, same-test, lent-ok, lent-then, room-then, place-then}
+use Rattle.hpel.proofs.Laws.{LentOk, same-test, lent-ok, lent-then, room-then, place-then, sooner}
 use Rattle.hpel.proofs.served.check_block.Statement.{statement}
 use Rattle.hpel.proofs.served.check_block.Tie as tie
 
@@ -51,10 +50,9 @@ check-block-spec =
     tie.close
     (tie.spec
     (λ c κs. search needs)
-    (λ c. let h = c .if1 .taken in first _ _ _ (first _ _ _ (first _ _ _ (c .before .check-lent .ensures) h) h) h)
+    (λ c. sooner _ _ _ _ _ _ _ _ _ _ _ _ _ _ _ _ _ (first _ _ _ (c .before .check-lent .ensures) (c .if1 .taken)) (c .if1 .taken))
     (λ c. let a = c .before .before .args in omega (arith, area 16 (a .bw) (a .bh) 16 (ok c .bw2) (ok c .bh2)))
-    (λ c.
-    first _ _ _ (first _ _ _ (lent-then _ _ _ _ _ _ _ _ _ _ _ _ _ (lent (c .before)) (hit [] (lt-ltb _ _ (c .if2 .taken)))) (λ e. omega (arith, e))) (λ e. omega (arith, e)))
+    (λ c. sooner _ _ _ _ _ _ _ _ _ _ _ _ _ _ _ _ _ (lent-then _ _ _ _ _ _ _ _ _ _ _ _ _ (lent (c .before)) (hit [] (lt-ltb _ _ (c .if2 .taken)))) (λ e. omega (arith, e)))
     (λ c κs. search needs)
     (λ c κs. search needs)
     (λ c κs. search needs)

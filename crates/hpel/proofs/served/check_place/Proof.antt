@@ -1,6 +1,6 @@
 -- `hpel::served::check_place` meets its contract: the tests stand in the code in the order of the list, 2^29 up. Assumes nothing.
 use borrow.Author.Needs.{needs}
-use mathlib.Core.Path.{_≡_, sym, ap, _∙_}
+use mathlib.Core.Path.{_≡_, ap, _∙_}
 use Prim.Native.Nat.{ℕ, _+_, _*_}
 use mir.Facts.{toZ-ofZ}
 use Rattle.place.specs.Place.{lumaPlace}
