@@ -31,6 +31,9 @@ returns c =
       m .centre-row .ensures,
     )
 
+centres-require : tie.Need-centre-row-requires
+centres-require c κs = search needs
+
 pub build-lanes-spec : {M : Type 1} → statement M
 build-lanes-spec =
     tie.close
@@ -40,7 +43,7 @@ build-lanes-spec =
     (λ c κs. search needs)
     (λ c. search needs)
     (λ c κs. search needs)
-    (λ c κs. search needs)
+    centres-require
     (λ c. search needs)
     (λ c. search needs)
     (λ c. search needs)
