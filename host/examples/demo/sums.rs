@@ -2,7 +2,6 @@
 
 use std::collections::BTreeSet;
 use std::fmt::Display;
-use std::process::ExitCode;
 
 use inter::{
     build_hpel_planes, edge_count, expand_plane, hpel_block, mc_chroma, mc_luma, mc_luma_padded,
@@ -71,7 +70,8 @@ impl Table {
     }
 }
 
-fn main() -> ExitCode {
+/// Shows the sums, and tells whether all agree.
+pub fn shown() -> bool {
     let mut table = Table::default();
     luma(&mut table);
     chroma(&mut table);
@@ -81,15 +81,10 @@ fn main() -> ExitCode {
     margins(&mut table);
     half_samples(&mut table);
     match table.wrong {
-        0 => {
-            println!("\nAll as the document says.");
-            ExitCode::SUCCESS
-        }
-        wrong => {
-            println!("\nNot as the document says: {wrong}");
-            ExitCode::FAILURE
-        }
+        0 => println!("\nAll as the document says."),
+        wrong => println!("\nNot as the document says: {wrong}"),
     }
+    table.wrong == 0
 }
 
 fn luma(table: &mut Table) {
@@ -229,4 +224,12 @@ fn half_samples(table: &mut Table) {
     let agreed: Result<Vec<bool>, Refusal> = vectors.map(agrees).collect();
     let agreed = agreed.map(|agreed| agreed.into_iter().filter(|&agrees| agrees).count());
     table.row("ix -32..31, 15 phases: blocks as mc_luma's", 64 * 15, agreed);
+}
+
+#[cfg(test)]
+mod tests {
+    #[test]
+    fn all_sums_agree() {
+        assert!(super::shown());
+    }
 }
