@@ -1,0 +1,32 @@
+-- `replay::report` is safe and ends: kind counts up to 16. Assumes nothing.
+use borrow.Author.Needs.{needs}
+use mathlib.Core.Path.{_≡_}
+use Prim.Native.Nat.{_-_, _≤_, _<_}
+use native.Mathlib.Omega.{arith}
+use lib.ListN.{length}
+use Rattle.replay.proofs.report.Statement.{statement}
+use Rattle.replay.proofs.report.Tie as tie
+
+abbrev Inv-loop : tie.InvT-loop
+Inv-loop st done differ kind₀ kind = (kind ≤ 16) × (length done ≡ 24) × (length differ ≡ 24)
+
+abbrev μ-loop : tie.MeasureT-loop
+μ-loop st done differ kind₀ kind = 16 - kind
+
+pub report-spec : {M : Type 1} → statement M
+report-spec =
+    tie.close
+    (tie.spec
+    Inv-loop
+    μ-loop
+    (λ c. search needs)  -- loop-holds
+    (λ c. search needs)  -- mul-one-call
+    (λ c. search needs)  -- array-read-one-call
+    (λ c. search needs)  -- mul-one-call-2
+    (λ c. search needs)  -- array-read-one-call-2
+    (λ c κs. search needs)  -- one-call-requires
+    (λ c. search needs)  -- add-kind
+    (λ c. search needs)  -- loop-less
+    (λ c. search needs)  -- loop-again
+    (λ c κs. search needs)  -- all-calls-requires
+    (λ c. search needs))  -- returns
