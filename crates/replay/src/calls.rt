@@ -1,4 +1,5 @@
 // The library's calls on the numbers of a line. A source is named by its place among the pictures' bytes and by how many are lent.
+use crate::half;
 use crate::text;
 use margins::Geometry;
 use vectors::Mv;
@@ -36,15 +37,25 @@ pub const PAD_PLANE: usize = 14;
 
 pub const BUILD_HPEL_PLANES: usize = 15;
 
-pub const LAST: usize = 15;
+pub const HPEL_REF_AT: usize = 16;
+
+pub const HPEL_QPEL_REFS_AT: usize = 17;
+
+pub const HPEL_REF: usize = 18;
+
+pub const HPEL_QPEL_REFS: usize = 19;
+
+pub const HPEL_BLOCK: usize = 20;
+
+pub const LAST: usize = 20;
 
 // The first n bytes of an output, or all where there are fewer.
-fn first(out: &mut [u8], n: usize) -> &mut [u8] {
+pub fn first(out: &mut [u8], n: usize) -> &mut [u8] {
     if n <= out.len() { &mut out[..n] } else { out }
 }
 
 // The last 32 bits, as a number with a sign.
-fn signed_of(n: usize) -> i32 {
+pub fn signed_of(n: usize) -> i32 {
     signed::from_bits((n % 4294967296) as u32)
 }
 
@@ -341,6 +352,7 @@ fn block(
         MC_CHROMA_PADDED => mc_chroma_padded(a, pictures, o),
         MC_CHROMA_PADDED_PAIR => mc_chroma_padded_pair(a, pictures, o, p),
         PAD_PLANE => pad_plane(a, pictures, o),
+        HPEL_BLOCK => half::hpel_block(a, pictures, o),
         _ => build_hpel_planes(a, pictures, o, p, q, r),
     }
 }
@@ -361,6 +373,10 @@ pub fn answer(
         PREDICT_PARTITION_MV => predict_partition_mv(a),
         INTER_PARTITIONS => inter_partitions(a),
         EDGE_COUNT => edge_count(a),
+        HPEL_REF_AT => half::hpel_ref_at(a, pictures),
+        HPEL_QPEL_REFS_AT => half::hpel_qpel_refs_at(a, pictures),
+        HPEL_REF => half::hpel_ref(a, pictures),
+        HPEL_QPEL_REFS => half::hpel_qpel_refs(a, pictures),
         _ => only(block(a, pictures, o, p, q, r)),
     }
 }

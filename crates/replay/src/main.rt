@@ -2,6 +2,7 @@
 ghost use Prim.Native.Nat.{_<_};
 
 mod calls;
+mod half;
 mod same;
 mod say;
 mod text;

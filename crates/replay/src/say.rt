@@ -21,7 +21,12 @@ fn name(kind: usize) {
         calls::MC_CHROMA_PADDED => io::write_all(1, b"mc_chroma_padded"),
         calls::MC_CHROMA_PADDED_PAIR => io::write_all(1, b"mc_chroma_padded_pair"),
         calls::PAD_PLANE => io::write_all(1, b"pad_plane"),
-        _ => io::write_all(1, b"build_hpel_planes"),
+        calls::BUILD_HPEL_PLANES => io::write_all(1, b"build_hpel_planes"),
+        calls::HPEL_REF_AT => io::write_all(1, b"hpel_ref_at"),
+        calls::HPEL_QPEL_REFS_AT => io::write_all(1, b"hpel_qpel_refs_at"),
+        calls::HPEL_REF => io::write_all(1, b"hpel_ref"),
+        calls::HPEL_QPEL_REFS => io::write_all(1, b"hpel_qpel_refs"),
+        _ => io::write_all(1, b"hpel_block"),
     }
     ;
 }

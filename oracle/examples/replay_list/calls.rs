@@ -20,10 +20,13 @@ pub const CALLS: [(&str, &str); 20] = [
     ("mc_chroma_padded_pair", "P stride pad pw ph x0 y0 bw bh mvx mvy out P out = refusal"),
     ("pad_plane", "P w h pad out = refusal"),
     ("build_hpel_planes", "P w h pad out out out out = refusal"),
-    ("hpel_ref_at", "P w h pad x0 y0 bw bh mvx mvy P P P = refusal plane offset stride"),
-    ("hpel_qpel_refs_at", "P w h pad x0 y0 bw bh mvx mvy P P P = refusal planes offsets stride"),
-    ("hpel_ref", "P w h pad x0 y0 bw bh mvx mvy P P P = length, then the first four bytes"),
-    ("hpel_qpel_refs", "P w h pad x0 y0 bw bh mvx mvy P P P = the same of each of two"),
+    ("hpel_ref_at", "P w h pad x0 y0 bw bh mvx mvy P P P out = refusal plane offset stride"),
+    (
+        "hpel_qpel_refs_at",
+        "P w h pad x0 y0 bw bh mvx mvy P P P out = refusal planes offsets stride",
+    ),
+    ("hpel_ref", "P w h pad x0 y0 bw bh mvx mvy P P P out = length, then the first four bytes"),
+    ("hpel_qpel_refs", "P w h pad x0 y0 bw bh mvx mvy P P P out = the same of each of two"),
     ("hpel_block", "P w h pad x0 y0 bw bh mvx mvy P P P out = refusal"),
 ];
 
@@ -42,6 +45,11 @@ pub const MC_CHROMA_PADDED: usize = 12;
 pub const MC_CHROMA_PADDED_PAIR: usize = 13;
 pub const PAD_PLANE: usize = 14;
 pub const BUILD_HPEL_PLANES: usize = 15;
+pub const HPEL_REF_AT: usize = 16;
+pub const HPEL_QPEL_REFS_AT: usize = 17;
+pub const HPEL_REF: usize = 18;
+pub const HPEL_QPEL_REFS: usize = 19;
+pub const HPEL_BLOCK: usize = 20;
 
 /// Numbers and output bytes; an output that stays as it was is not among them.
 #[derive(Default)]
@@ -280,6 +288,84 @@ fn build_hpel_planes(a: &Args) -> Expected {
     })
 }
 
+/// The four planes as lent, and refusals 1 to 4 of the calls that read them.
+fn half_planes(a: &Args) -> (rust::HpelPlanes, Vec<(i128, bool)>) {
+    let [f, h, v, c] = [0, 11, 13, 15].map(|k| a.lent(k).to_vec());
+    let (cw, ch, pad) = (a.size(2), a.size(3), a.size(4));
+    let mut tests = vec![bad_sides(cw, ch), bad_pad(pad)];
+    tests.extend([&f, &h, &v, &c].map(|p| short(2, p.len(), wide(cw, pad), wide(ch, pad))));
+    tests.extend(bad_block(16, a.block(5)));
+    let [pw, ph] = [wide(cw, pad), wide(ch, pad)].map(|n| n as usize);
+    (rust::HpelPlanes { f, h, v, c, stride: pw, pad, pw, ph, cw, ch }, tests)
+}
+
+/// The number of a plane.
+fn plane_of(planes: &rust::HpelPlanes, plane: &[u8]) -> i128 {
+    let all = [&planes.f, &planes.h, &planes.v, &planes.c];
+    all.iter().position(|p| p.as_ptr() == plane.as_ptr()).expect("one of the four") as i128
+}
+
+/// A view's length and its first four bytes.
+fn beginning(view: &[u8]) -> Vec<i128> {
+    let bytes = (0..4).map(|i| view.get(i).map_or(0, |&b| b as i128));
+    [view.len() as i128].into_iter().chain(bytes).collect()
+}
+
+/// The lookup of one plane: as numbers, or as a view.
+fn hpel_ref(a: &Args, as_view: bool) -> Expected {
+    let (planes, tests) = half_planes(a);
+    let refusal = lowest(&tests);
+    let ([x0, y0, bw, bh], mvx, mvy) = (a.block(5), a.signed(9), a.signed(10));
+    let served = match refusal {
+        0 => rust::hpel_ref(&planes, x0, y0, bw, bh, mvx, mvy),
+        _ => None,
+    };
+    match (served, as_view) {
+        (None, true) => numbers(beginning(&[])),
+        (None, false) => numbers([if refusal == 0 { 6 } else { refusal }, 0, 0, 0]),
+        (Some((plane, base, _)), true) => numbers(beginning(&plane[base..])),
+        (Some((plane, base, stride)), false) => {
+            numbers([0, plane_of(&planes, plane), base as i128, stride as i128])
+        }
+    }
+}
+
+/// The lookup of two planes: as numbers, or as views.
+fn hpel_qpel_refs(a: &Args, as_view: bool) -> Expected {
+    let (planes, tests) = half_planes(a);
+    let refusal = lowest(&tests);
+    let ([x0, y0, bw, bh], mvx, mvy) = (a.block(5), a.signed(9), a.signed(10));
+    let served = match refusal {
+        0 => rust::hpel_qpel_refs(&planes, x0, y0, bw, bh, mvx, mvy),
+        _ => None,
+    };
+    match (served, as_view) {
+        (None, true) => numbers([beginning(&[]), beginning(&[])].concat()),
+        (None, false) => numbers([if refusal == 0 { 6 } else { refusal }, 0, 0, 0, 0, 0]),
+        (Some((p, i, q, j, _)), true) => numbers([beginning(&p[i..]), beginning(&q[j..])].concat()),
+        (Some((p, i, q, j, stride)), false) => {
+            let [k, l] = [p, q].map(|plane| plane_of(&planes, plane));
+            numbers([0, k, l, i as i128, j as i128, stride as i128])
+        }
+    }
+}
+
+fn hpel_block(a: &Args) -> Expected {
+    let (planes, mut tests) = half_planes(a);
+    let [x0, y0, bw, bh] = a.block(5);
+    tests.push(short(5, a.size(17), bw as i128, bh as i128));
+    let refusal = lowest(&tests);
+    if refusal != 0 {
+        return numbers([refusal]);
+    }
+    let mut out = vec![0; bw * bh];
+    let (mvx, mvy) = (a.signed(9), a.signed(10));
+    match rust::hpel_block(&planes, x0, y0, bw, bh, mvx, mvy, &mut out) {
+        true => Expected { numbers: vec![0], outputs: vec![out] },
+        false => numbers([6]),
+    }
+}
+
 /// What the line of a call must answer.
 pub fn expected(kind: usize, args: &[i128], pictures: &[u8]) -> Expected {
     let a = &Args(args, pictures);
@@ -305,6 +391,11 @@ pub fn expected(kind: usize, args: &[i128], pictures: &[u8]) -> Expected {
         MC_CHROMA_PADDED_PAIR => pair(a),
         PAD_PLANE => pad_plane(a),
         BUILD_HPEL_PLANES => build_hpel_planes(a),
+        HPEL_REF_AT => hpel_ref(a, false),
+        HPEL_QPEL_REFS_AT => hpel_qpel_refs(a, false),
+        HPEL_REF => hpel_ref(a, true),
+        HPEL_QPEL_REFS => hpel_qpel_refs(a, true),
+        HPEL_BLOCK => hpel_block(a),
         _ => unreachable!("no call has the number {kind}"),
     }
 }
@@ -319,6 +410,7 @@ pub fn lent_outputs(kind: usize, args: &[i128]) -> Vec<i128> {
         MC_CHROMA_PADDED_PAIR => &[12, 15],
         PAD_PLANE => &[5],
         BUILD_HPEL_PLANES => &[5, 6, 7, 8],
+        HPEL_BLOCK => &[17],
         _ => &[],
     };
     places.iter().map(|&k| args[k]).collect()

@@ -398,6 +398,95 @@ impl List {
     }
 }
 
+// The half-sample planes in use.
+impl List {
+    /// Four planes built from a picture.
+    fn built(&mut self, picture: Picture, (cw, ch): (i128, i128), pad: i128) -> Half {
+        let source = &self.pictures[picture.at as usize..];
+        let made = rust::build_hpel_planes(source, cw as usize, ch as usize, pad as usize);
+        let planes = [made.f, made.h, made.v, made.c].map(|plane| self.picture(&plane));
+        Half { planes, cw, ch, pad }
+    }
+
+    /// Four planes of noise: what they hold is read as it is.
+    fn unbuilt(&mut self, (cw, ch): (i128, i128), pad: i128) -> Half {
+        let count = ((cw + 2 * pad) * (ch + 2 * pad)) as usize;
+        Half { planes: [(); 4].map(|()| self.noise(count)), cw, ch, pad }
+    }
+
+    /// A position and a component: the block lies inside the planes, touches an end, or is one off.
+    fn served_axis(&mut self, side: i128, pad: i128, b: i128, f: i128) -> (i128, i128) {
+        let (first, last) = (-pad, side + pad - b - 1);
+        let place = match self.rng.within(0, 19) {
+            0 => first - 1,
+            1 => last + 1,
+            2..=4 => first,
+            5..=7 => last,
+            _ => self.rng.within(first as i64, last.max(first) as i64) as i128,
+        };
+        let x0 = self.rng.within(0, 65535) as i128;
+        (x0, (place - x0) * 4 + f)
+    }
+
+    fn half_args(&mut self, half: &Half, [bw, bh]: [i128; 2], phase: i128) -> Vec<i128> {
+        let (x0, mvx) = self.served_axis(half.cw, half.pad, bw, phase % 4);
+        let (y0, mvy) = self.served_axis(half.ch, half.pad, bh, phase / 4);
+        half.args([x0, y0, bw, bh, mvx, mvy])
+    }
+
+    fn half_calls(&mut self, kind: usize, halves: &[Half]) {
+        let odd = matches!(kind, HPEL_QPEL_REFS_AT | HPEL_QPEL_REFS);
+        for phase in 0..16 {
+            // More of the phases that the call serves.
+            let rounds = match (kind, (phase % 4 | phase / 4) % 2 == 1) {
+                (HPEL_BLOCK, _) => 2,
+                (_, quarter) if quarter != odd => 1,
+                _ => 3,
+            };
+            for (i, half) in (0..rounds).flat_map(|_| halves.iter().enumerate()) {
+                let sides = match i {
+                    0 => [16, 16],
+                    1 | 4 => [self.rng.pick(&[4, 8]), self.rng.within(1, 8) as i128],
+                    _ => self.sides(4),
+                };
+                let args = self.half_args(half, sides, phase);
+                self.call(kind, &args);
+            }
+        }
+        // A block in the middle, at a phase that this call serves.
+        let half = halves[1];
+        let good = half.args([1, 1, 4, 2, 2 + odd as i128, 4]);
+        let needed = (half.cw + 2 * half.pad) * (half.ch + 2 * half.pad);
+        let mut changes =
+            [&around(&[2, 3], 8192)[..], &around(&[7, 8], 16), &positions(&[5, 6])].concat();
+        changes.extend([129, HUGE[0], HUGE[1]].map(|pad| (4, pad)));
+        changes.extend([1, 12, 14, 16].into_iter().flat_map(|k| [(k, 0), (k, needed - 1)]));
+        changes.extend(ENDS.into_iter().flat_map(|mv| [(9, mv), (10, mv)]));
+        if kind == HPEL_BLOCK {
+            changes.extend([(17, 0), (17, 7), (17, 8)]);
+        }
+        self.changed(kind, &good, &changes);
+    }
+}
+
+/// Four planes and their geometry.
+#[derive(Clone, Copy)]
+struct Half {
+    planes: [Picture; 4],
+    cw: i128,
+    ch: i128,
+    pad: i128,
+}
+
+impl Half {
+    /// The arguments of `hpel_block`; the other calls leave the last one aside.
+    fn args(&self, block: [i128; 6]) -> Vec<i128> {
+        let [f, h, v, c] = self.planes.map(|plane| [plane.at, plane.len]);
+        let out = block[2] * block[3] + 3;
+        [&f[..], &[self.cw, self.ch, self.pad], &block, &h, &v, &c, &[out]].concat()
+    }
+}
+
 impl Plane {
     fn args(&self) -> [i128; 6] {
         [self.picture.at, self.picture.len, self.stride, self.pad, self.pw, self.ph]
@@ -488,6 +577,7 @@ pub fn made() -> String {
     let filled = list.expanded(small);
     let wide = list.flat_plane((1, 1), 128, 257);
     let long = list.flat_plane((1, 1), 0, 16384);
+    let grey = list.picture(&[99; 6400]);
     list.expansions(&[small, tight, wide, long]);
     // The planes of a pair are two views a byte apart.
     list.noise(1);
@@ -497,6 +587,19 @@ pub fn made() -> String {
     list.padded(MC_CHROMA_PADDED, 8, 8, &planes[..4]);
     list.padded(MC_CHROMA_PADDED_PAIR, 8, 8, &planes[..3]);
     list.planes_of(&pictures[4..7]);
+
+    let halves = [
+        list.built(square, (16, 16), 4),
+        list.unbuilt((6, 6), 3),
+        list.built(row, (6, 1), 2),
+        list.built(dot, (6, 6), 0),
+        // Margins of 32 and of 128, with one plane for all four.
+        Half { planes: [grey; 4], cw: 16, ch: 16, pad: 32 },
+        Half { planes: [wide.picture; 4], cw: 1, ch: 1, pad: 128 },
+    ];
+    for kind in [HPEL_REF_AT, HPEL_QPEL_REFS_AT, HPEL_REF, HPEL_QPEL_REFS, HPEL_BLOCK] {
+        list.half_calls(kind, &halves);
+    }
 
     header(list.answers, &list.text)
 }

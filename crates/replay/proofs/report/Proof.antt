@@ -1,4 +1,4 @@
--- `replay::report` is safe and ends: kind counts up to 16. Assumes nothing.
+-- `replay::report` is safe and ends: kind counts up to 21. Assumes nothing.
 use borrow.Author.Needs.{needs}
 use mathlib.Core.Path.{_≡_}
 use Prim.Native.Nat.{_-_, _≤_, _<_}
@@ -8,10 +8,10 @@ use Rattle.replay.proofs.report.Statement.{statement}
 use Rattle.replay.proofs.report.Tie as tie
 
 abbrev Inv-loop : tie.InvT-loop
-Inv-loop st done differ kind₀ kind = (kind ≤ 16) × (length done ≡ 24) × (length differ ≡ 24)
+Inv-loop st done differ kind₀ kind = (kind ≤ 21) × (length done ≡ 24) × (length differ ≡ 24)
 
 abbrev μ-loop : tie.MeasureT-loop
-μ-loop st done differ kind₀ kind = 16 - kind
+μ-loop st done differ kind₀ kind = 21 - kind
 
 pub report-spec : {M : Type 1} → statement M
 report-spec =
