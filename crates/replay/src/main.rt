@@ -3,7 +3,6 @@ ghost use Prim.Native.Nat.{_<_};
 
 mod calls;
 mod half;
-mod same;
 mod say;
 mod text;
 
@@ -144,7 +143,7 @@ fn judge_output(s: &[u8], at: usize, out: &[u8], room: usize) -> Judged {
     Judged {
         next: r.next,
         ok: r.ok & (r.filled <= room),
-        same: same::same_bytes(text::cut(out, 0, room), text::cut(&want, 0, room)),
+        same: runs::same_bytes(text::cut(out, 0, room), text::cut(&want, 0, room)),
     }
 }
 
@@ -181,7 +180,7 @@ fn judge(s: &[u8], line: Line, pictures: &[u8]) -> Judged {
     Judged {
         next: j.next,
         ok: j.ok,
-        same: same::same_numbers(&got, &answer) & j.same,
+        same: runs::same_numbers(&got, &answer) & j.same,
     }
 }
 

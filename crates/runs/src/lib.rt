@@ -22,8 +22,8 @@ pub fn same_bytes(a: &[u8], b: &[u8]) -> bool
 pub fn same_numbers(a: &[usize; 24], b: &[usize; 24]) -> bool
     ensures { λ r. ⌜ (r ≡ true → (k : ℕ) → k < 24 → getD (now (a .entry)) k 0 ≡ getD (now (b .entry)) k 0) × (((k : ℕ) → k < 24 → getD (now (a .entry)) k 0 ≡ getD (now (b .entry)) k 0) → r ≡ true) ⌝ }
 {
-    for i in 0..24usize {
-        if a[i] != b[i] {
+    for j in 0..24usize {
+        if a[j] != b[j] {
             return false;
         }
     }

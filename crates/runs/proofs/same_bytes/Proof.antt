@@ -1,13 +1,13 @@
--- `replay::same::same_bytes` meets its contract: whatever stands before i is equal. Assumes nothing.
+-- `runs::same_bytes` meets its contract: whatever stands before i is equal. Assumes nothing.
 use borrow.Author.Needs.{needs}
 use borrow.Author.Count.{below-none, below-more}
 use mathlib.Core.Path.{_≡_}
 use Prim.Native.Nat.{ℕ, _-_, _≤_, _<_}
 use native.Mathlib.Omega.{arith}
 use lib.ListN.{length, getD}
-use Rattle.replay.proofs.Runs.{unequal-lengths, unequal-at, all-equal}
-use Rattle.replay.proofs.same.same_bytes.Statement.{statement}
-use Rattle.replay.proofs.same.same_bytes.Tie as tie
+use Rattle.runs.proofs.Runs.{unequal-lengths, unequal-at, all-equal}
+use Rattle.runs.proofs.same_bytes.Statement.{statement}
+use Rattle.runs.proofs.same_bytes.Tie as tie
 
 abbrev Inv-loop : tie.InvT-loop
 Inv-loop a b i₀ i-end i = (i ≤ length a) × ((k : ℕ) → k < i → getD a k 0 ≡ getD b k 0)
