@@ -177,7 +177,7 @@ fn edge_count(a: &[usize; 24]) -> [usize; 24] {
 }
 
 // An answer of one number.
-fn only(refusal: u32) -> [usize; 24] {
+pub fn only(refusal: u32) -> [usize; 24] {
     let mut got = [0usize; 24];
     got[0] = refusal as usize;
     got
@@ -332,28 +332,29 @@ fn build_hpel_planes(
     )
 }
 
-// The calls that answer by a refusal alone.
-fn block(
-    a: &[usize; 24],
-    pictures: &[u8],
-    o: &mut [u8],
-    p: &mut [u8],
-    q: &mut [u8],
-    r: &mut [u8],
-) -> u32 {
+// The calls of numbers alone.
+fn of_numbers(a: &[usize; 24]) -> [usize; 24] {
     let kind = a[0];
     match kind {
-        MC_LUMA => mc_luma(a, pictures, o),
-        MC_CHROMA => mc_chroma(a, pictures, o),
-        AVG_ROW_INTO => avg_row_into(a, pictures, o),
-        EXPAND_PLANE => expand_plane(a, pictures, o),
-        MC_LUMA_PADDED => mc_luma_padded(a, pictures, o),
-        MC_LUMA_PADDED_PRE => mc_luma_padded_pre(a, pictures, o),
-        MC_CHROMA_PADDED => mc_chroma_padded(a, pictures, o),
-        MC_CHROMA_PADDED_PAIR => mc_chroma_padded_pair(a, pictures, o, p),
-        PAD_PLANE => pad_plane(a, pictures, o),
-        HPEL_BLOCK => half::hpel_block(a, pictures, o),
-        _ => build_hpel_planes(a, pictures, o, p, q, r),
+        MEDIAN3 => median3(a),
+        PREDICT_MV => predict_mv(a),
+        PREDICT_PARTITION_MV => predict_partition_mv(a),
+        INTER_PARTITIONS => inter_partitions(a),
+        _ => edge_count(a),
+    }
+}
+
+fn of_one_output(a: &[usize; 24], pictures: &[u8], out: &mut [u8]) -> u32 {
+    let kind = a[0];
+    match kind {
+        MC_LUMA => mc_luma(a, pictures, out),
+        MC_CHROMA => mc_chroma(a, pictures, out),
+        AVG_ROW_INTO => avg_row_into(a, pictures, out),
+        EXPAND_PLANE => expand_plane(a, pictures, out),
+        MC_LUMA_PADDED => mc_luma_padded(a, pictures, out),
+        MC_LUMA_PADDED_PRE => mc_luma_padded_pre(a, pictures, out),
+        MC_CHROMA_PADDED => mc_chroma_padded(a, pictures, out),
+        _ => pad_plane(a, pictures, out),
     }
 }
 
@@ -367,16 +368,17 @@ pub fn answer(
     r: &mut [u8],
 ) -> [usize; 24] {
     let kind = a[0];
-    match kind {
-        MEDIAN3 => median3(a),
-        PREDICT_MV => predict_mv(a),
-        PREDICT_PARTITION_MV => predict_partition_mv(a),
-        INTER_PARTITIONS => inter_partitions(a),
-        EDGE_COUNT => edge_count(a),
-        HPEL_REF_AT => half::hpel_ref_at(a, pictures),
-        HPEL_QPEL_REFS_AT => half::hpel_qpel_refs_at(a, pictures),
-        HPEL_REF => half::hpel_ref(a, pictures),
-        HPEL_QPEL_REFS => half::hpel_qpel_refs(a, pictures),
-        _ => only(block(a, pictures, o, p, q, r)),
+    if kind <= EDGE_COUNT {
+        return of_numbers(a);
     }
+    if HPEL_REF_AT <= kind {
+        return half::answer(a, pictures, o);
+    }
+    if kind == MC_CHROMA_PADDED_PAIR {
+        return only(mc_chroma_padded_pair(a, pictures, o, p));
+    }
+    if kind == BUILD_HPEL_PLANES {
+        return only(build_hpel_planes(a, pictures, o, p, q, r));
+    }
+    only(of_one_output(a, pictures, o))
 }

@@ -2,12 +2,12 @@
 use crate::calls;
 use crate::text;
 
-pub fn hpel_ref_at(a: &[usize; 24], pictures: &[u8]) -> [usize; 24] {
+fn hpel_ref_at(a: &[usize; 24], f: &[u8], h: &[u8], v: &[u8], c: &[u8]) -> [usize; 24] {
     let k = hpel::hpel_ref_at(
-        text::cut(pictures, a[2], a[3]),
-        text::cut(pictures, a[13], a[14]),
-        text::cut(pictures, a[15], a[16]),
-        text::cut(pictures, a[17], a[18]),
+        f,
+        h,
+        v,
+        c,
         a[4],
         a[5],
         a[6],
@@ -26,12 +26,12 @@ pub fn hpel_ref_at(a: &[usize; 24], pictures: &[u8]) -> [usize; 24] {
     got
 }
 
-pub fn hpel_qpel_refs_at(a: &[usize; 24], pictures: &[u8]) -> [usize; 24] {
+fn hpel_qpel_refs_at(a: &[usize; 24], f: &[u8], h: &[u8], v: &[u8], c: &[u8]) -> [usize; 24] {
     let k = hpel::hpel_qpel_refs_at(
-        text::cut(pictures, a[2], a[3]),
-        text::cut(pictures, a[13], a[14]),
-        text::cut(pictures, a[15], a[16]),
-        text::cut(pictures, a[17], a[18]),
+        f,
+        h,
+        v,
+        c,
         a[4],
         a[5],
         a[6],
@@ -68,12 +68,18 @@ fn beginnings(p: &[u8], q: &[u8]) -> [usize; 24] {
     got
 }
 
-pub fn hpel_ref(a: &[usize; 24], pictures: &[u8]) -> [usize; 24] {
+fn hpel_ref<'a>(
+    a: &[usize; 24],
+    f: &'a [u8],
+    h: &'a [u8],
+    v: &'a [u8],
+    c: &'a [u8],
+) -> [usize; 24] {
     let view = hpel::hpel_ref(
-        text::cut(pictures, a[2], a[3]),
-        text::cut(pictures, a[13], a[14]),
-        text::cut(pictures, a[15], a[16]),
-        text::cut(pictures, a[17], a[18]),
+        f,
+        h,
+        v,
+        c,
         a[4],
         a[5],
         a[6],
@@ -84,15 +90,21 @@ pub fn hpel_ref(a: &[usize; 24], pictures: &[u8]) -> [usize; 24] {
         calls::signed_of(a[11]),
         calls::signed_of(a[12]),
     );
-    beginnings(view, &pictures[..0])
+    beginnings(view, &f[..0])
 }
 
-pub fn hpel_qpel_refs(a: &[usize; 24], pictures: &[u8]) -> [usize; 24] {
+fn hpel_qpel_refs<'a>(
+    a: &[usize; 24],
+    f: &'a [u8],
+    h: &'a [u8],
+    v: &'a [u8],
+    c: &'a [u8],
+) -> [usize; 24] {
     let views = hpel::hpel_qpel_refs(
-        text::cut(pictures, a[2], a[3]),
-        text::cut(pictures, a[13], a[14]),
-        text::cut(pictures, a[15], a[16]),
-        text::cut(pictures, a[17], a[18]),
+        f,
+        h,
+        v,
+        c,
         a[4],
         a[5],
         a[6],
@@ -106,12 +118,19 @@ pub fn hpel_qpel_refs(a: &[usize; 24], pictures: &[u8]) -> [usize; 24] {
     beginnings(views[0], views[1])
 }
 
-pub fn hpel_block(a: &[usize; 24], pictures: &[u8], out: &mut [u8]) -> u32 {
+fn hpel_block<'a>(
+    a: &[usize; 24],
+    f: &'a [u8],
+    h: &'a [u8],
+    v: &'a [u8],
+    c: &'a [u8],
+    out: &mut [u8],
+) -> u32 {
     hpel::hpel_block(
-        text::cut(pictures, a[2], a[3]),
-        text::cut(pictures, a[13], a[14]),
-        text::cut(pictures, a[15], a[16]),
-        text::cut(pictures, a[17], a[18]),
+        f,
+        h,
+        v,
+        c,
         a[4],
         a[5],
         a[6],
@@ -123,4 +142,20 @@ pub fn hpel_block(a: &[usize; 24], pictures: &[u8], out: &mut [u8]) -> u32 {
         calls::signed_of(a[12]),
         calls::first(out, a[19]),
     )
+}
+
+// The planes are cut here, once for all of the calls.
+pub fn answer(a: &[usize; 24], pictures: &[u8], out: &mut [u8]) -> [usize; 24] {
+    let f = text::cut(pictures, a[2], a[3]);
+    let h = text::cut(pictures, a[13], a[14]);
+    let v = text::cut(pictures, a[15], a[16]);
+    let c = text::cut(pictures, a[17], a[18]);
+    let kind = a[0];
+    match kind {
+        calls::HPEL_REF_AT => hpel_ref_at(a, f, h, v, c),
+        calls::HPEL_QPEL_REFS_AT => hpel_qpel_refs_at(a, f, h, v, c),
+        calls::HPEL_REF => hpel_ref(a, f, h, v, c),
+        calls::HPEL_QPEL_REFS => hpel_qpel_refs(a, f, h, v, c),
+        _ => calls::only(hpel_block(a, f, h, v, c, out)),
+    }
 }
