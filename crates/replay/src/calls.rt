@@ -344,18 +344,33 @@ fn of_numbers(a: &[usize; 24]) -> [usize; 24] {
     }
 }
 
-fn of_one_output(a: &[usize; 24], pictures: &[u8], out: &mut [u8]) -> u32 {
+fn of_pictures(a: &[usize; 24], pictures: &[u8], out: &mut [u8]) -> u32 {
     let kind = a[0];
     match kind {
         MC_LUMA => mc_luma(a, pictures, out),
         MC_CHROMA => mc_chroma(a, pictures, out),
         AVG_ROW_INTO => avg_row_into(a, pictures, out),
+        _ => pad_plane(a, pictures, out),
+    }
+}
+
+fn of_margins(a: &[usize; 24], pictures: &[u8], out: &mut [u8]) -> u32 {
+    let kind = a[0];
+    match kind {
         EXPAND_PLANE => expand_plane(a, pictures, out),
         MC_LUMA_PADDED => mc_luma_padded(a, pictures, out),
         MC_LUMA_PADDED_PRE => mc_luma_padded_pre(a, pictures, out),
-        MC_CHROMA_PADDED => mc_chroma_padded(a, pictures, out),
-        _ => pad_plane(a, pictures, out),
+        _ => mc_chroma_padded(a, pictures, out),
     }
+}
+
+// The calls with one output.
+fn of_one_output(a: &[usize; 24], pictures: &[u8], out: &mut [u8]) -> u32 {
+    let kind = a[0];
+    if (EXPAND_PLANE <= kind) & (kind <= MC_CHROMA_PADDED) {
+        return of_margins(a, pictures, out);
+    }
+    of_pictures(a, pictures, out)
 }
 
 // What the library answers to a line's numbers; the outputs are o, p, q and r.

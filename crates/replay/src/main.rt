@@ -1,5 +1,7 @@
 // Replays a list of the oracle's answers through the library's calls, and says how many differ.
+ghost use mathlib.Core.Path.{_≡_};
 ghost use Prim.Native.Nat.{_<_};
+ghost use lib.ListN.{length};
 
 mod calls;
 mod half;
@@ -124,6 +126,13 @@ fn read_line(s: &[u8], at: usize) -> Line {
     }
 }
 
+// Room for the largest output, a plane of 257 by 257, as it is before a call.
+fn untouched() -> [u8; 66560]
+    ensures { λ r. ⌜ 66560 ≡ length r ⌝ }
+{
+    [FILL; 66560]
+}
+
 // The bytes of an output that the line lists after a `|`; none where it lists no more outputs.
 fn read_output(s: &[u8], at: usize, want: &mut [u8]) -> text::Read {
     if text::byte_at(s, at) == b'|' {
@@ -138,7 +147,7 @@ fn read_output(s: &[u8], at: usize, want: &mut [u8]) -> text::Read {
 
 // The first `room` bytes of an output against those that the line lists: past these nothing may have been written.
 fn judge_output(s: &[u8], at: usize, out: &[u8], room: usize) -> Judged {
-    let mut want = [FILL; 66560];
+    let mut want = untouched();
     let r = read_output(s, at, &mut want);
     Judged {
         next: r.next,
@@ -169,10 +178,10 @@ fn judge_outputs(
 
 // The call of a line, and whether all that it gives is as listed.
 fn judge(s: &[u8], line: Line, pictures: &[u8]) -> Judged {
-    let mut o = [FILL; 66560];
-    let mut p = [FILL; 66560];
-    let mut q = [FILL; 66560];
-    let mut r = [FILL; 66560];
+    let mut o = untouched();
+    let mut p = untouched();
+    let mut q = untouched();
+    let mut r = untouched();
     let call = line.call;
     let answer = line.answer;
     let got = calls::answer(&call, pictures, &mut o, &mut p, &mut q, &mut r);
@@ -216,7 +225,7 @@ fn step(s: &[u8], st: State, pictures: &mut [u8]) -> State {
 
 // All lines; there are fewer of them than bytes.
 fn replay(s: &[u8], start: State) -> State {
-    let mut pictures = [0u8; 262144];
+    let mut pictures = [0u8; 131072];
     let mut st = start;
     for _ in 0..s.len() {
         if !st.going | (s.len() <= st.at) {
@@ -253,8 +262,15 @@ fn run(s: &[u8]) {
     report(end);
 }
 
+// Room for the list.
+fn no_text() -> [u8; 393216]
+    ensures { λ r. ⌜ 393216 ≡ length r ⌝ }
+{
+    [0; 393216]
+}
+
 fn main() {
-    let mut s = [0u8; 524288];
+    let mut s = no_text();
     let n = io::read_full(0, &mut s);
     run(&s[..n]);
 }

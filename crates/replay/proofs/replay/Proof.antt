@@ -8,7 +8,7 @@ use Rattle.replay.proofs.replay.Statement.{statement}
 use Rattle.replay.proofs.replay.Tie as tie
 
 abbrev Inv-loop : tie.InvT-loop
-Inv-loop s pictures₀ st₀ counter₀ end pictures st counter = (counter ≤ end) × (length pictures ≡ 262144)
+Inv-loop s pictures₀ st₀ counter₀ end pictures st counter = (counter ≤ end) × (length pictures ≡ 131072)
 
 abbrev μ-loop : tie.MeasureT-loop
 μ-loop s pictures₀ st₀ counter₀ end pictures st counter = end - counter
