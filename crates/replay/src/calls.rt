@@ -92,6 +92,38 @@ fn geometry(a: &[usize; 24]) -> Geometry {
     }
 }
 
+// Where a block stands, how large it is, and its vector.
+pub struct Block {
+    pub x0: usize,
+    pub y0: usize,
+    pub bw: usize,
+    pub bh: usize,
+    pub mvx: i32,
+    pub mvy: i32,
+}
+
+fn plain_block(a: &[usize; 24]) -> Block {
+    Block {
+        x0: a[6],
+        y0: a[7],
+        bw: a[8],
+        bh: a[9],
+        mvx: signed_of(a[10]),
+        mvy: signed_of(a[11]),
+    }
+}
+
+fn padded_block(a: &[usize; 24]) -> Block {
+    Block {
+        x0: a[8],
+        y0: a[9],
+        bw: a[10],
+        bh: a[11],
+        mvx: signed_of(a[12]),
+        mvy: signed_of(a[13]),
+    }
+}
+
 fn vector_answer(m: MvAnswer) -> [usize; 24] {
     let mut got = [0usize; 24];
     got[0] = m.refusal as usize;
@@ -184,31 +216,33 @@ pub fn only(refusal: u32) -> [usize; 24] {
 }
 
 fn mc_luma(a: &[usize; 24], pictures: &[u8], out: &mut [u8]) -> u32 {
+    let b = plain_block(a);
     luma::mc_luma(
         text::cut(pictures, a[2], a[3]),
         a[4],
         a[5],
-        a[6],
-        a[7],
-        a[8],
-        a[9],
-        signed_of(a[10]),
-        signed_of(a[11]),
+        b.x0,
+        b.y0,
+        b.bw,
+        b.bh,
+        b.mvx,
+        b.mvy,
         first(out, a[12]),
     )
 }
 
 fn mc_chroma(a: &[usize; 24], pictures: &[u8], out: &mut [u8]) -> u32 {
+    let b = plain_block(a);
     chroma::mc_chroma(
         text::cut(pictures, a[2], a[3]),
         a[4],
         a[5],
-        a[6],
-        a[7],
-        a[8],
-        a[9],
-        signed_of(a[10]),
-        signed_of(a[11]),
+        b.x0,
+        b.y0,
+        b.bw,
+        b.bh,
+        b.mvx,
+        b.mvy,
         first(out, a[12]),
     )
 }
@@ -236,20 +270,22 @@ fn copy(from: &[u8], to: &mut [u8]) {
 }
 
 fn mc_luma_padded(a: &[usize; 24], pictures: &[u8], out: &mut [u8]) -> u32 {
+    let b = padded_block(a);
     padded::mc_luma_padded(
         text::cut(pictures, a[2], a[3]),
         geometry(a),
-        a[8],
-        a[9],
-        a[10],
-        a[11],
-        signed_of(a[12]),
-        signed_of(a[13]),
+        b.x0,
+        b.y0,
+        b.bw,
+        b.bh,
+        b.mvx,
+        b.mvy,
         first(out, a[14]),
     )
 }
 
 fn mc_luma_padded_pre(a: &[usize; 24], pictures: &[u8], out: &mut [u8]) -> u32 {
+    let b = padded_block(a);
     let mut tile = [0u8; 441];
     let mut p = [0u8; 256];
     let mut q = [0u8; 256];
@@ -262,41 +298,43 @@ fn mc_luma_padded_pre(a: &[usize; 24], pictures: &[u8], out: &mut [u8]) -> u32 {
         a[5],
         a[6],
         a[7],
-        a[8],
-        a[9],
-        a[10],
-        a[11],
-        signed_of(a[12]),
-        signed_of(a[13]),
+        b.x0,
+        b.y0,
+        b.bw,
+        b.bh,
+        b.mvx,
+        b.mvy,
         first(out, a[14]),
     )
 }
 
 fn mc_chroma_padded(a: &[usize; 24], pictures: &[u8], out: &mut [u8]) -> u32 {
+    let b = padded_block(a);
     padded::mc_chroma_padded(
         text::cut(pictures, a[2], a[3]),
         geometry(a),
-        a[8],
-        a[9],
-        a[10],
-        a[11],
-        signed_of(a[12]),
-        signed_of(a[13]),
+        b.x0,
+        b.y0,
+        b.bw,
+        b.bh,
+        b.mvx,
+        b.mvy,
         first(out, a[14]),
     )
 }
 
 fn mc_chroma_padded_pair(a: &[usize; 24], pictures: &[u8], u: &mut [u8], v: &mut [u8]) -> u32 {
+    let b = padded_block(a);
     padded::mc_chroma_padded_pair(
         text::cut(pictures, a[2], a[3]),
         text::cut(pictures, a[15], a[16]),
         geometry(a),
-        a[8],
-        a[9],
-        a[10],
-        a[11],
-        signed_of(a[12]),
-        signed_of(a[13]),
+        b.x0,
+        b.y0,
+        b.bw,
+        b.bh,
+        b.mvx,
+        b.mvy,
         first(u, a[14]),
         first(v, a[17]),
     )

@@ -1,8 +1,21 @@
 // The calls on half-sample planes. A view is answered by its length and its first four bytes.
 use crate::calls;
+use crate::calls::Block;
 use crate::text;
 
+fn block(a: &[usize; 24]) -> Block {
+    Block {
+        x0: a[7],
+        y0: a[8],
+        bw: a[9],
+        bh: a[10],
+        mvx: calls::signed_of(a[11]),
+        mvy: calls::signed_of(a[12]),
+    }
+}
+
 fn hpel_ref_at(a: &[usize; 24], f: &[u8], h: &[u8], v: &[u8], c: &[u8]) -> [usize; 24] {
+    let b = block(a);
     let k = hpel::hpel_ref_at(
         f,
         h,
@@ -11,12 +24,12 @@ fn hpel_ref_at(a: &[usize; 24], f: &[u8], h: &[u8], v: &[u8], c: &[u8]) -> [usiz
         a[4],
         a[5],
         a[6],
-        a[7],
-        a[8],
-        a[9],
-        a[10],
-        calls::signed_of(a[11]),
-        calls::signed_of(a[12]),
+        b.x0,
+        b.y0,
+        b.bw,
+        b.bh,
+        b.mvx,
+        b.mvy,
     );
     let mut got = [0usize; 24];
     got[0] = k.refusal as usize;
@@ -27,6 +40,7 @@ fn hpel_ref_at(a: &[usize; 24], f: &[u8], h: &[u8], v: &[u8], c: &[u8]) -> [usiz
 }
 
 fn hpel_qpel_refs_at(a: &[usize; 24], f: &[u8], h: &[u8], v: &[u8], c: &[u8]) -> [usize; 24] {
+    let b = block(a);
     let k = hpel::hpel_qpel_refs_at(
         f,
         h,
@@ -35,12 +49,12 @@ fn hpel_qpel_refs_at(a: &[usize; 24], f: &[u8], h: &[u8], v: &[u8], c: &[u8]) ->
         a[4],
         a[5],
         a[6],
-        a[7],
-        a[8],
-        a[9],
-        a[10],
-        calls::signed_of(a[11]),
-        calls::signed_of(a[12]),
+        b.x0,
+        b.y0,
+        b.bw,
+        b.bh,
+        b.mvx,
+        b.mvy,
     );
     let mut got = [0usize; 24];
     got[0] = k.refusal as usize;
@@ -75,6 +89,7 @@ fn hpel_ref<'a>(
     v: &'a [u8],
     c: &'a [u8],
 ) -> [usize; 24] {
+    let b = block(a);
     let view = hpel::hpel_ref(
         f,
         h,
@@ -83,12 +98,12 @@ fn hpel_ref<'a>(
         a[4],
         a[5],
         a[6],
-        a[7],
-        a[8],
-        a[9],
-        a[10],
-        calls::signed_of(a[11]),
-        calls::signed_of(a[12]),
+        b.x0,
+        b.y0,
+        b.bw,
+        b.bh,
+        b.mvx,
+        b.mvy,
     );
     beginnings(view, &f[..0])
 }
@@ -100,6 +115,7 @@ fn hpel_qpel_refs<'a>(
     v: &'a [u8],
     c: &'a [u8],
 ) -> [usize; 24] {
+    let b = block(a);
     let views = hpel::hpel_qpel_refs(
         f,
         h,
@@ -108,12 +124,12 @@ fn hpel_qpel_refs<'a>(
         a[4],
         a[5],
         a[6],
-        a[7],
-        a[8],
-        a[9],
-        a[10],
-        calls::signed_of(a[11]),
-        calls::signed_of(a[12]),
+        b.x0,
+        b.y0,
+        b.bw,
+        b.bh,
+        b.mvx,
+        b.mvy,
     );
     beginnings(views[0], views[1])
 }
@@ -126,6 +142,7 @@ fn hpel_block<'a>(
     c: &'a [u8],
     out: &mut [u8],
 ) -> u32 {
+    let b = block(a);
     hpel::hpel_block(
         f,
         h,
@@ -134,12 +151,12 @@ fn hpel_block<'a>(
         a[4],
         a[5],
         a[6],
-        a[7],
-        a[8],
-        a[9],
-        a[10],
-        calls::signed_of(a[11]),
-        calls::signed_of(a[12]),
+        b.x0,
+        b.y0,
+        b.bw,
+        b.bh,
+        b.mvx,
+        b.mvy,
         calls::first(out, a[19]),
     )
 }
