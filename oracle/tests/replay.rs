@@ -14,5 +14,8 @@ fn list_is_as_made() {
     for (i, (old, new)) in committed.lines().zip(made.lines()).enumerate() {
         assert_eq!(old, new, "line {} is not what the generator makes", i + 1);
     }
-    assert!(committed == made, "the list is longer or shorter than the one that is made");
+    assert!(
+        committed == made,
+        "the list is longer or shorter than the one that is made"
+    );
 }

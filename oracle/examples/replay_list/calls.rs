@@ -6,28 +6,58 @@ use oracle::inter as rust;
 /// The calls, in the order of their numbers, with their arguments as the list's header says them.
 pub const CALLS: [(&str, &str); 20] = [
     ("median3", "a b c = the median"),
-    ("predict_mv", "A B C current = refusal x y; a neighbour is available (1 or 0) x y reference"),
-    ("predict_partition_mv", "A B C current mode part = refusal x y"),
+    (
+        "predict_mv",
+        "A B C current = refusal x y; a neighbour is available (1 or 0) x y reference",
+    ),
+    (
+        "predict_partition_mv",
+        "A B C current mode part = refusal x y",
+    ),
     ("inter_partitions", "mode = count, then x y w h of four"),
     ("edge_count", "w h x0 y0 bw bh mvx mvy = refusal count"),
     ("mc_luma", "P w h x0 y0 bw bh mvx mvy out = refusal"),
     ("mc_chroma", "P w h x0 y0 bw bh mvx mvy out = refusal"),
     ("avg_row_into", "P P w out = refusal"),
     ("expand_plane", "P stride pad pw ph = refusal"),
-    ("mc_luma_padded", "P stride pad pw ph x0 y0 bw bh mvx mvy out = refusal"),
-    ("mc_luma_padded_pre", "P stride pad pw ph x0 y0 bw bh mvx mvy out = refusal"),
-    ("mc_chroma_padded", "P stride pad pw ph x0 y0 bw bh mvx mvy out = refusal"),
-    ("mc_chroma_padded_pair", "P stride pad pw ph x0 y0 bw bh mvx mvy out P out = refusal"),
+    (
+        "mc_luma_padded",
+        "P stride pad pw ph x0 y0 bw bh mvx mvy out = refusal",
+    ),
+    (
+        "mc_luma_padded_pre",
+        "P stride pad pw ph x0 y0 bw bh mvx mvy out = refusal",
+    ),
+    (
+        "mc_chroma_padded",
+        "P stride pad pw ph x0 y0 bw bh mvx mvy out = refusal",
+    ),
+    (
+        "mc_chroma_padded_pair",
+        "P stride pad pw ph x0 y0 bw bh mvx mvy out P out = refusal",
+    ),
     ("pad_plane", "P w h pad out = refusal"),
     ("build_hpel_planes", "P w h pad out out out out = refusal"),
-    ("hpel_ref_at", "P w h pad x0 y0 bw bh mvx mvy P P P out = refusal plane offset stride"),
+    (
+        "hpel_ref_at",
+        "P w h pad x0 y0 bw bh mvx mvy P P P out = refusal plane offset stride",
+    ),
     (
         "hpel_qpel_refs_at",
         "P w h pad x0 y0 bw bh mvx mvy P P P out = refusal planes offsets stride",
     ),
-    ("hpel_ref", "P w h pad x0 y0 bw bh mvx mvy P P P out = length, then the first four bytes"),
-    ("hpel_qpel_refs", "P w h pad x0 y0 bw bh mvx mvy P P P out = the same of each of two"),
-    ("hpel_block", "P w h pad x0 y0 bw bh mvx mvy P P P out = refusal"),
+    (
+        "hpel_ref",
+        "P w h pad x0 y0 bw bh mvx mvy P P P out = length, then the first four bytes",
+    ),
+    (
+        "hpel_qpel_refs",
+        "P w h pad x0 y0 bw bh mvx mvy P P P out = the same of each of two",
+    ),
+    (
+        "hpel_block",
+        "P w h pad x0 y0 bw bh mvx mvy P P P out = refusal",
+    ),
 ];
 
 pub const MEDIAN3: usize = 1;
@@ -91,7 +121,12 @@ impl<'a> Args<'a> {
 
 /// The lowest number that applies, 0 if none does.
 fn lowest(tests: &[(i128, bool)]) -> i128 {
-    tests.iter().filter(|test| test.1).map(|test| test.0).min().unwrap_or(0)
+    tests
+        .iter()
+        .filter(|test| test.1)
+        .map(|test| test.0)
+        .min()
+        .unwrap_or(0)
 }
 
 fn bad_sides(w: usize, h: usize) -> (i128, bool) {
@@ -120,31 +155,53 @@ fn plain_refusal(most: usize, a: &Args, k: usize, len: usize, out: usize) -> i12
     let (w, h, block) = (a.size(k), a.size(k + 1), a.block(k + 2));
     let [side, position] = bad_block(most, block);
     let needed = short(5, out, block[2] as i128, block[3] as i128);
-    lowest(&[bad_sides(w, h), short(2, len, w as i128, h as i128), side, position, needed])
+    lowest(&[
+        bad_sides(w, h),
+        short(2, len, w as i128, h as i128),
+        side,
+        position,
+        needed,
+    ])
 }
 
 /// Refusals 1 and 2 of a plane with margins, whose stride, pad, pw and ph stand from place `k` on.
 fn padded_tests(a: &Args, k: usize, len: usize) -> [(i128, bool); 4] {
     let [stride, pad, pw, ph] = a.block(k);
     let off = (stride as i128) < wide(pw, pad) || stride > 16384;
-    [bad_sides(pw, ph), bad_pad(pad), (1, off), short(2, len, stride as i128, wide(ph, pad))]
+    [
+        bad_sides(pw, ph),
+        bad_pad(pad),
+        (1, off),
+        short(2, len, stride as i128, wide(ph, pad)),
+    ]
 }
 
 fn padded_refusal(most: usize, a: &Args, k: usize, len: usize, out: usize) -> i128 {
     let block = a.block(k + 4);
     let needed = short(5, out, block[2] as i128, block[3] as i128);
-    let tests = [&padded_tests(a, k, len)[..], &bad_block(most, block), &[needed]].concat();
+    let tests = [
+        &padded_tests(a, k, len)[..],
+        &bad_block(most, block),
+        &[needed],
+    ]
+    .concat();
     lowest(&tests)
 }
 
 /// A refusal alone, or 0 and the outputs that `done` makes.
 fn unless(refusal: i128, done: impl FnOnce() -> Vec<Vec<u8>>) -> Expected {
     let outputs = if refusal == 0 { done() } else { Vec::new() };
-    Expected { numbers: vec![refusal], outputs }
+    Expected {
+        numbers: vec![refusal],
+        outputs,
+    }
 }
 
 fn numbers(numbers: impl IntoIterator<Item = i128>) -> Expected {
-    Expected { numbers: numbers.into_iter().collect(), outputs: Vec::new() }
+    Expected {
+        numbers: numbers.into_iter().collect(),
+        outputs: Vec::new(),
+    }
 }
 
 /// Refusal 7, else the vector.
@@ -160,7 +217,11 @@ fn vector(a: &Args, predicted: impl FnOnce(i32) -> (i32, i32)) -> Expected {
 fn partitions(mode: u8) -> Expected {
     let parts = rust::inter_partitions(mode);
     let mut all = vec![parts.len() as i128];
-    all.extend(parts.iter().flat_map(|&(x, y, w, h)| [x, y, w, h].map(|n| n as i128)));
+    all.extend(
+        parts
+            .iter()
+            .flat_map(|&(x, y, w, h)| [x, y, w, h].map(|n| n as i128)),
+    );
     all.resize(17, 0);
     numbers(all)
 }
@@ -177,7 +238,9 @@ fn edge_count(a: &Args) -> Expected {
     let (ix, iy) = (first(block[0], a.signed(6)), first(block[1], a.signed(7)));
     let inside = |at: i64, side: usize| (0..side as i64).contains(&at);
     let places = (0..block[3] as i64).flat_map(|y| (0..block[2] as i64).map(move |x| (x, y)));
-    let off = places.filter(|&(x, y)| !inside(ix + x, w) || !inside(iy + y, h)).count();
+    let off = places
+        .filter(|&(x, y)| !inside(ix + x, w) || !inside(iy + y, h))
+        .count();
     numbers([0, off as i128])
 }
 
@@ -188,7 +251,18 @@ fn plain(a: &Args, most: usize, route: Plain) -> Expected {
     unless(plain_refusal(most, a, 2, source.len(), a.size(10)), || {
         let mut out = vec![0; bw * bh];
         let (w, h) = (a.size(2), a.size(3));
-        route(source, w, h, x0, y0, bw, bh, a.signed(8), a.signed(9), &mut out);
+        route(
+            source,
+            w,
+            h,
+            x0,
+            y0,
+            bw,
+            bh,
+            a.signed(8),
+            a.signed(9),
+            &mut out,
+        );
         vec![out]
     })
 }
@@ -211,7 +285,10 @@ fn expand_plane(a: &Args) -> Expected {
         let [stride, pad, pw, ph] = a.block(2);
         rust::expand_plane(&mut buf, stride, pad, pw, ph);
     }
-    Expected { numbers: vec![refusal], outputs: vec![buf] }
+    Expected {
+        numbers: vec![refusal],
+        outputs: vec![buf],
+    }
 }
 
 type Padded =
@@ -228,7 +305,9 @@ fn padded_block(a: &Args, source: &[u8], route: Padded) -> Vec<u8> {
     let ([stride, pad, pw, ph], [x0, y0, bw, bh]) = (a.block(2), a.block(6));
     let mut out = vec![0; bw * bh];
     let (mvx, mvy) = (a.signed(10), a.signed(11));
-    route(source, stride, pad, pw, ph, x0, y0, bw, bh, mvx, mvy, &mut out);
+    route(
+        source, stride, pad, pw, ph, x0, y0, bw, bh, mvx, mvy, &mut out,
+    );
     out
 }
 
@@ -270,7 +349,11 @@ fn pair(a: &Args) -> Expected {
 /// Refusals of the calls that make planes from a picture; their outputs stand from place 5 on.
 fn planes_refusal(a: &Args, outputs: usize) -> i128 {
     let (len, w, h, pad) = (a.lent(0).len(), a.size(2), a.size(3), a.size(4));
-    let mut tests = vec![bad_sides(w, h), bad_pad(pad), short(2, len, w as i128, h as i128)];
+    let mut tests = vec![
+        bad_sides(w, h),
+        bad_pad(pad),
+        short(2, len, w as i128, h as i128),
+    ];
     tests.extend((5..5 + outputs).map(|k| short(5, a.size(k), wide(w, pad), wide(h, pad))));
     lowest(&tests)
 }
@@ -296,13 +379,29 @@ fn half_planes(a: &Args) -> (rust::HpelPlanes, Vec<(i128, bool)>) {
     tests.extend([&f, &h, &v, &c].map(|p| short(2, p.len(), wide(cw, pad), wide(ch, pad))));
     tests.extend(bad_block(16, a.block(5)));
     let [pw, ph] = [wide(cw, pad), wide(ch, pad)].map(|n| n as usize);
-    (rust::HpelPlanes { f, h, v, c, stride: pw, pad, pw, ph, cw, ch }, tests)
+    (
+        rust::HpelPlanes {
+            f,
+            h,
+            v,
+            c,
+            stride: pw,
+            pad,
+            pw,
+            ph,
+            cw,
+            ch,
+        },
+        tests,
+    )
 }
 
 /// The number of a plane.
 fn plane_of(planes: &rust::HpelPlanes, plane: &[u8]) -> i128 {
     let all = [&planes.f, &planes.h, &planes.v, &planes.c];
-    all.iter().position(|p| p.as_ptr() == plane.as_ptr()).expect("one of the four") as i128
+    all.iter()
+        .position(|p| p.as_ptr() == plane.as_ptr())
+        .expect("one of the four") as i128
 }
 
 /// A view's length and its first four bytes.
@@ -361,7 +460,10 @@ fn hpel_block(a: &Args) -> Expected {
     let mut out = vec![0; bw * bh];
     let (mvx, mvy) = (a.signed(9), a.signed(10));
     match rust::hpel_block(&planes, x0, y0, bw, bh, mvx, mvy, &mut out) {
-        true => Expected { numbers: vec![0], outputs: vec![out] },
+        true => Expected {
+            numbers: vec![0],
+            outputs: vec![out],
+        },
         false => numbers([6]),
     }
 }

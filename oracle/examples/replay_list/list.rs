@@ -57,7 +57,11 @@ fn hex(bytes: &[u8]) -> String {
 }
 
 fn spaced(numbers: &[i128]) -> String {
-    numbers.iter().map(i128::to_string).collect::<Vec<_>>().join(" ")
+    numbers
+        .iter()
+        .map(i128::to_string)
+        .collect::<Vec<_>>()
+        .join(" ")
 }
 
 /// As in zlib.
@@ -74,12 +78,19 @@ impl List {
     fn picture(&mut self, bytes: &[u8]) -> Picture {
         let at = self.pictures.len() as i128;
         // Long noise in several lines; a run is never long.
-        let lines = if hex(bytes).len() > 400 { 128 } else { bytes.len() };
+        let lines = if hex(bytes).len() > 400 {
+            128
+        } else {
+            bytes.len()
+        };
         for part in bytes.chunks(lines) {
             writeln!(self.text, "P{}={}", self.pictures.len(), hex(part)).unwrap();
             self.pictures.extend(part);
         }
-        Picture { at, len: bytes.len() as i128 }
+        Picture {
+            at,
+            len: bytes.len() as i128,
+        }
     }
 
     /// Noise, which tells every place from every other.
@@ -90,13 +101,18 @@ impl List {
 
     /// Black and white, where clips and roundings show.
     fn extremes(&mut self, count: usize) -> Picture {
-        let bytes: Vec<u8> = (0..count).map(|_| self.rng.pick(&[0, 255, 255, 0, 1])).collect();
+        let bytes: Vec<u8> = (0..count)
+            .map(|_| self.rng.pick(&[0, 255, 255, 0, 1]))
+            .collect();
         self.picture(&bytes)
     }
 
     fn call(&mut self, kind: usize, args: &[i128]) {
         let expected = expected(kind, args, &self.pictures);
-        let room = lent_outputs(kind, args).iter().max().map_or(0, |lent| lent + GUARD);
+        let room = lent_outputs(kind, args)
+            .iter()
+            .max()
+            .map_or(0, |lent| lent + GUARD);
         let line = [&[kind as i128, room], args].concat();
         let mut numbers = expected.numbers;
         while numbers.len() > 1 && numbers.last() == Some(&0) {
@@ -132,13 +148,22 @@ impl List {
         let rng = &mut self.rng;
         let place = match rng.within(0, 7) {
             0 => return (rng.pick(&[0, 65535]), (i32::MIN as i64 + f) as i128),
-            1 => return (rng.pick(&[0, 65535]), (i32::MAX as i64 + 1 - steps + f) as i128),
+            1 => {
+                return (
+                    rng.pick(&[0, 65535]),
+                    (i32::MAX as i64 + 1 - steps + f) as i128,
+                )
+            }
             2 => rng.within(-b - 200, side + 200),
             3 => rng.within(-b - 4, 4),
             4 => rng.within(side - b - 4, side + 4),
             _ => rng.within(-2, side),
         };
-        let x0 = if rng.within(0, 3) == 0 { rng.within(0, 65535) } else { rng.within(0, side + 3) };
+        let x0 = if rng.within(0, 3) == 0 {
+            rng.within(0, 65535)
+        } else {
+            rng.within(0, side + 3)
+        };
         (x0 as i128, ((place - x0) * steps + f) as i128)
     }
 
@@ -164,10 +189,10 @@ impl List {
 // What each call is listed with.
 impl List {
     fn vectors(&mut self) {
-        for (a, b, c) in ENDS
-            .iter()
-            .flat_map(|&a| ENDS.iter().flat_map(move |&b| ENDS.iter().map(move |&c| (a, b, c))))
-        {
+        for (a, b, c) in ENDS.iter().flat_map(|&a| {
+            ENDS.iter()
+                .flat_map(move |&b| ENDS.iter().map(move |&c| (a, b, c)))
+        }) {
             self.call(MEDIAN3, &[a, b, c]);
         }
         for _ in 0..75 {
@@ -200,7 +225,9 @@ impl List {
         }
         for current in [-1, 31, 32, i32::MIN as i128, i32::MAX as i128] {
             // A vector that the Rust would give.
-            let mut args = vec![1, 1, 2, current, 1, 3, 4, current, 1, 5, 6, current, current];
+            let mut args = vec![
+                1, 1, 2, current, 1, 3, 4, current, 1, 5, 6, current, current,
+            ];
             self.call(PREDICT_MV, &args);
             args.extend([1, 0]);
             self.call(PREDICT_PARTITION_MV, &args);
@@ -231,8 +258,12 @@ impl List {
         }
         let whole = [16, 16, 0, 0, 16, 16, -4, 0];
         self.call(EDGE_COUNT, &whole);
-        let changes =
-            [&around(&[0, 1], 8192)[..], &around(&[4, 5], 16), &positions(&[2, 3])].concat();
+        let changes = [
+            &around(&[0, 1], 8192)[..],
+            &around(&[4, 5], 16),
+            &positions(&[2, 3]),
+        ]
+        .concat();
         self.changed(EDGE_COUNT, &whole, &changes);
     }
 
@@ -246,7 +277,10 @@ impl List {
                     _ => self.sides(if i == 1 { most } else { most / 2 }),
                 };
                 let block = self.block((w, h), sides, steps, phase);
-                self.call(kind, &[&[picture.at, picture.len, w, h], &block[..]].concat());
+                self.call(
+                    kind,
+                    &[&[picture.at, picture.len, w, h], &block[..]].concat(),
+                );
             }
         }
         let (picture, w, h) = pictures[1];
@@ -256,7 +290,14 @@ impl List {
             &around(&[2, 3], 8192)[..],
             &around(&[6, 7], most as i128),
             &positions(&[4, 5]),
-            &[(1, 0), (1, w * h - 1), (1, w * h), (10, 0), (10, bw * bh - 1), (10, bw * bh + 9)],
+            &[
+                (1, 0),
+                (1, w * h - 1),
+                (1, w * h),
+                (10, 0),
+                (10, bw * bh - 1),
+                (10, bw * bh + 9),
+            ],
         ]
         .concat();
         self.changed(kind, &good, &changes);
@@ -265,7 +306,10 @@ impl List {
     fn averages(&mut self, a: Picture, b: Picture) {
         for w in (0..20).chain([31, 32, 33, 63, 64, 65, 127, 128, 129]) {
             let spare = self.rng.pick(&[0, 3]);
-            self.call(AVG_ROW_INTO, &[a.at + w % 7, w, b.at, w + spare, w, w + spare]);
+            self.call(
+                AVG_ROW_INTO,
+                &[a.at + w % 7, w, b.at, w + spare, w, w + spare],
+            );
         }
         let good = [a.at, 20, b.at, 20, 20, 20];
         let changes = [
@@ -286,7 +330,13 @@ impl List {
     fn plane(&mut self, (pw, ph): (i128, i128), pad: i128, gap: i128) -> Plane {
         let stride = pw + 2 * pad + gap;
         let picture = self.noise((stride * (ph + 2 * pad)) as usize);
-        Plane { picture, stride, pad, pw, ph }
+        Plane {
+            picture,
+            stride,
+            pad,
+            pw,
+            ph,
+        }
     }
 
     /// A plane of one byte in margins of another.
@@ -295,16 +345,31 @@ impl List {
         for y in pad..pad + ph {
             bytes[(y * stride + pad) as usize..][..pw as usize].fill(10);
         }
-        Plane { picture: self.picture(&bytes), stride, pad, pw, ph }
+        Plane {
+            picture: self.picture(&bytes),
+            stride,
+            pad,
+            pw,
+            ph,
+        }
     }
 
     fn expanded(&mut self, plane: Plane) -> Plane {
-        let Plane { picture, stride, pad, pw, ph } = plane;
+        let Plane {
+            picture,
+            stride,
+            pad,
+            pw,
+            ph,
+        } = plane;
         let from = picture.at as usize;
         let mut bytes = self.pictures[from..from + picture.len as usize].to_vec();
         let [s, p, w, h] = [stride, pad, pw, ph].map(|n| n as usize);
         rust::expand_plane(&mut bytes, s, p, w, h);
-        Plane { picture: self.picture(&bytes), ..plane }
+        Plane {
+            picture: self.picture(&bytes),
+            ..plane
+        }
     }
 
     fn expansions(&mut self, planes: &[Plane]) {
@@ -345,7 +410,12 @@ impl List {
         .concat();
         if kind == MC_CHROMA_PADDED_PAIR {
             good.extend([plane.picture.at + 1, plane.picture.len, bw * bh]);
-            changes.extend([(14, 0), (14, plane.needed() - 1), (15, 0), (15, bw * bh - 1)]);
+            changes.extend([
+                (14, 0),
+                (14, plane.needed() - 1),
+                (15, 0),
+                (15, bw * bh - 1),
+            ]);
         }
         self.changed(kind, &good, &changes);
     }
@@ -381,7 +451,10 @@ impl List {
                     let spare = self.rng.pick(&[0, 4]);
                     let needed = (w + 2 * pad) * (h + 2 * pad) + spare;
                     let outs = vec![needed; outputs];
-                    self.call(kind, &[&[picture.at, picture.len, w, h, pad], &outs[..]].concat());
+                    self.call(
+                        kind,
+                        &[&[picture.at, picture.len, w, h, pad], &outs[..]].concat(),
+                    );
                 }
             }
             let (picture, ..) = pictures[0];
@@ -405,13 +478,23 @@ impl List {
         let source = &self.pictures[picture.at as usize..];
         let made = rust::build_hpel_planes(source, cw as usize, ch as usize, pad as usize);
         let planes = [made.f, made.h, made.v, made.c].map(|plane| self.picture(&plane));
-        Half { planes, cw, ch, pad }
+        Half {
+            planes,
+            cw,
+            ch,
+            pad,
+        }
     }
 
     /// Four planes of noise: what they hold is read as it is.
     fn unbuilt(&mut self, (cw, ch): (i128, i128), pad: i128) -> Half {
         let count = ((cw + 2 * pad) * (ch + 2 * pad)) as usize;
-        Half { planes: [(); 4].map(|()| self.noise(count)), cw, ch, pad }
+        Half {
+            planes: [(); 4].map(|()| self.noise(count)),
+            cw,
+            ch,
+            pad,
+        }
     }
 
     /// A position and a component: the block lies inside the planes, touches an end, or is one off.
@@ -457,10 +540,18 @@ impl List {
         let half = halves[1];
         let good = half.args([1, 1, 4, 2, 2 + odd as i128, 4]);
         let needed = (half.cw + 2 * half.pad) * (half.ch + 2 * half.pad);
-        let mut changes =
-            [&around(&[2, 3], 8192)[..], &around(&[7, 8], 16), &positions(&[5, 6])].concat();
+        let mut changes = [
+            &around(&[2, 3], 8192)[..],
+            &around(&[7, 8], 16),
+            &positions(&[5, 6]),
+        ]
+        .concat();
         changes.extend([129, HUGE[0], HUGE[1]].map(|pad| (4, pad)));
-        changes.extend([1, 12, 14, 16].into_iter().flat_map(|k| [(k, 0), (k, needed - 1)]));
+        changes.extend(
+            [1, 12, 14, 16]
+                .into_iter()
+                .flat_map(|k| [(k, 0), (k, needed - 1)]),
+        );
         changes.extend(ENDS.into_iter().flat_map(|mv| [(9, mv), (10, mv)]));
         if kind == HPEL_BLOCK {
             changes.extend([(17, 0), (17, 7), (17, 8)]);
@@ -483,13 +574,29 @@ impl Half {
     fn args(&self, block: [i128; 6]) -> Vec<i128> {
         let [f, h, v, c] = self.planes.map(|plane| [plane.at, plane.len]);
         let out = block[2] * block[3] + 3;
-        [&f[..], &[self.cw, self.ch, self.pad], &block, &h, &v, &c, &[out]].concat()
+        [
+            &f[..],
+            &[self.cw, self.ch, self.pad],
+            &block,
+            &h,
+            &v,
+            &c,
+            &[out],
+        ]
+        .concat()
     }
 }
 
 impl Plane {
     fn args(&self) -> [i128; 6] {
-        [self.picture.at, self.picture.len, self.stride, self.pad, self.pw, self.ph]
+        [
+            self.picture.at,
+            self.picture.len,
+            self.stride,
+            self.pad,
+            self.pw,
+            self.ph,
+        ]
     }
 
     fn needed(&self) -> i128 {
@@ -510,11 +617,17 @@ impl Plane {
 /// At each place what lies around a range from 1 to `most`.
 fn around(places: &[usize], most: i128) -> Vec<(usize, i128)> {
     let values = [0, 1, most, most + 1, HUGE[0] + 1, HUGE[1]];
-    places.iter().flat_map(|&k| values.map(|value| (k, value))).collect()
+    places
+        .iter()
+        .flat_map(|&k| values.map(|value| (k, value)))
+        .collect()
 }
 
 fn positions(places: &[usize]) -> Vec<(usize, i128)> {
-    places.iter().flat_map(|&k| [65535, 65536, HUGE[0], HUGE[1]].map(|x| (k, x))).collect()
+    places
+        .iter()
+        .flat_map(|&k| [65535, 65536, HUGE[0], HUGE[1]].map(|x| (k, x)))
+        .collect()
 }
 
 /// What a reader of the list must know.
@@ -546,8 +659,12 @@ fn header(answers: usize, body: &str) -> String {
 
 /// The whole list.
 pub fn made() -> String {
-    let mut list =
-        List { rng: Rng::new(SEED), pictures: Vec::new(), text: String::new(), answers: 0 };
+    let mut list = List {
+        rng: Rng::new(SEED),
+        pictures: Vec::new(),
+        text: String::new(),
+        answers: 0,
+    };
     list.vectors();
     list.edges();
 
@@ -594,10 +711,26 @@ pub fn made() -> String {
         list.built(row, (6, 1), 2),
         list.built(dot, (6, 6), 0),
         // Margins of 32 and of 128, with one plane for all four.
-        Half { planes: [grey; 4], cw: 16, ch: 16, pad: 32 },
-        Half { planes: [wide.picture; 4], cw: 1, ch: 1, pad: 128 },
+        Half {
+            planes: [grey; 4],
+            cw: 16,
+            ch: 16,
+            pad: 32,
+        },
+        Half {
+            planes: [wide.picture; 4],
+            cw: 1,
+            ch: 1,
+            pad: 128,
+        },
     ];
-    for kind in [HPEL_REF_AT, HPEL_QPEL_REFS_AT, HPEL_REF, HPEL_QPEL_REFS, HPEL_BLOCK] {
+    for kind in [
+        HPEL_REF_AT,
+        HPEL_QPEL_REFS_AT,
+        HPEL_REF,
+        HPEL_QPEL_REFS,
+        HPEL_BLOCK,
+    ] {
         list.half_calls(kind, &halves);
     }
 

@@ -2,7 +2,6 @@
 use borrow.Author.Needs.{needs}
 use mathlib.Core.Path.{_≡_}
 use Prim.Native.Nat.{_-_, _≤_}
-use native.Mathlib.Omega.{arith}
 use lib.ListN.{length}
 use Rattle.replay.proofs.replay.Statement.{statement}
 use Rattle.replay.proofs.replay.Tie as tie
@@ -19,11 +18,11 @@ replay-spec =
     (tie.spec
     Inv-loop
     μ-loop
-    (λ c. search needs)  -- loop-holds
-    (λ c. search needs)  -- slice-aggregate-step
-    (λ c κs. search needs)  -- step-requires
-    (λ c. search needs)  -- add-counter
-    (λ c. search needs)  -- loop-less
-    (λ c. search needs)  -- loop-again
-    (λ c. search needs)  -- returns
-    (λ c. search needs))  -- returns-2
+    (λ c. search needs)
+    (λ c. search needs)
+    (λ c κs. search needs)
+    (λ c. search needs)
+    (λ c. search needs)
+    (λ c. search needs)
+    (λ c. search needs)
+    (λ c. search needs))

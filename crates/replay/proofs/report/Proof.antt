@@ -1,8 +1,7 @@
 -- `replay::report` is safe and ends: kind counts up to 21. Assumes nothing.
 use borrow.Author.Needs.{needs}
 use mathlib.Core.Path.{_≡_}
-use Prim.Native.Nat.{_-_, _≤_, _<_}
-use native.Mathlib.Omega.{arith}
+use Prim.Native.Nat.{_-_, _≤_}
 use lib.ListN.{length}
 use Rattle.replay.proofs.report.Statement.{statement}
 use Rattle.replay.proofs.report.Tie as tie
@@ -19,14 +18,14 @@ report-spec =
     (tie.spec
     Inv-loop
     μ-loop
-    (λ c. search needs)  -- loop-holds
-    (λ c. search needs)  -- mul-one-call
-    (λ c. search needs)  -- array-read-one-call
-    (λ c. search needs)  -- mul-one-call-2
-    (λ c. search needs)  -- array-read-one-call-2
-    (λ c κs. search needs)  -- one-call-requires
-    (λ c. search needs)  -- add-kind
-    (λ c. search needs)  -- loop-less
-    (λ c. search needs)  -- loop-again
-    (λ c κs. search needs)  -- all-calls-requires
-    (λ c. search needs))  -- returns
+    (λ c. search needs)
+    (λ c. search needs)
+    (λ c. search needs)
+    (λ c. search needs)
+    (λ c. search needs)
+    (λ c κs. search needs)
+    (λ c. search needs)
+    (λ c. search needs)
+    (λ c. search needs)
+    (λ c κs. search needs)
+    (λ c. search needs))

@@ -1,6 +1,5 @@
 -- `runs::same_bytes` meets its contract: whatever stands before i is equal. Assumes nothing.
-use borrow.Author.Needs.{needs}
-use borrow.Author.Count.{below-none, below-more}
+use borrow.Author.Count.{below-more}
 use mathlib.Core.Path.{_≡_}
 use Prim.Native.Nat.{ℕ, _-_, _≤_, _<_}
 use native.Mathlib.Omega.{arith}

@@ -4,7 +4,7 @@ use borrow.Author.Count.{below-more}
 use mathlib.Core.Path.{_≡_, refl}
 use Prim.Native.Nat.{ℕ, _-_, _≤_, _<_}
 use native.Mathlib.Omega.{arith}
-use lib.ListN.{length, getD}
+use lib.ListN.{getD}
 use Rattle.runs.proofs.same_numbers.Statement.{statement}
 use Rattle.runs.proofs.same_numbers.Tie as tie
 

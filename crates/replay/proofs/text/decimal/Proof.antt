@@ -1,8 +1,6 @@
 -- `replay::text::decimal` is safe and ends: it takes at most twenty digits. Assumes nothing.
 use borrow.Author.Needs.{needs}
 use Prim.Native.Nat.{_-_, _≤_}
-use native.Mathlib.Omega.{arith}
-use lib.ListN.{length}
 use Rattle.replay.proofs.text.decimal.Statement.{statement}
 use Rattle.replay.proofs.text.decimal.Tie as tie
 
@@ -18,17 +16,17 @@ decimal-spec =
     (tie.spec
     Inv-loop
     μ-loop
-    (λ c. search needs)  -- loop-holds
-    (λ c κs. search needs)  -- byte-at-requires
-    (λ c κs. search needs)  -- digit-requires
-    (λ c. search needs)  -- returns
-    (λ c. search needs)  -- mul-if3
-    (λ c. search needs)  -- sub-if3
-    (λ c. search needs)  -- returns-2
-    (λ c. search needs)  -- mul-value
-    (λ c. search needs)  -- add-value
-    (λ c κs. search needs)  -- past-requires
-    (λ c. search needs)  -- add-counter
-    (λ c. search needs)  -- loop-less
-    (λ c. search needs)  -- loop-again
-    (λ c. search needs))  -- returns-3
+    (λ c. search needs)
+    (λ c κs. search needs)
+    (λ c κs. search needs)
+    (λ c. search needs)
+    (λ c. search needs)
+    (λ c. search needs)
+    (λ c. search needs)
+    (λ c. search needs)
+    (λ c. search needs)
+    (λ c κs. search needs)
+    (λ c. search needs)
+    (λ c. search needs)
+    (λ c. search needs)
+    (λ c. search needs))

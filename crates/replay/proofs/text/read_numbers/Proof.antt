@@ -1,8 +1,7 @@
 -- `replay::text::read_numbers` is safe and ends: k counts up to 24. Assumes nothing.
 use borrow.Author.Needs.{needs}
-use mathlib.Core.Path.{_≡_, refl, ap, _∙_}
+use mathlib.Core.Path.{_≡_}
 use Prim.Native.Nat.{_-_, _≤_}
-use native.Mathlib.Omega.{arith}
 use lib.ListN.{length}
 use Rattle.replay.proofs.text.read_numbers.Statement.{statement}
 use Rattle.replay.proofs.text.read_numbers.Tie as tie
@@ -19,15 +18,15 @@ read-numbers-spec =
     (tie.spec
     Inv-loop
     μ-loop
-    (λ c. search needs)  -- loop-holds
-    (λ c κs. search needs)  -- signed-number-requires
-    (λ c. search needs)  -- mul-list
-    (λ c. search needs)  -- array-write-list
-    (λ c κs. search needs)  -- byte-at-requires
-    (λ c. search needs)  -- returns
-    (λ c κs. search needs)  -- past-requires
-    (λ c. search needs)  -- add-k
-    (λ c. search needs)  -- loop-less
-    (λ c. search needs)  -- loop-again
-    (λ c. search needs)  -- returns-2
-    (λ c. search needs))  -- returns-3
+    (λ c. search needs)
+    (λ c κs. search needs)
+    (λ c. search needs)
+    (λ c. search needs)
+    (λ c κs. search needs)
+    (λ c. search needs)
+    (λ c κs. search needs)
+    (λ c. search needs)
+    (λ c. search needs)
+    (λ c. search needs)
+    (λ c. search needs)
+    (λ c. search needs))
