@@ -397,6 +397,11 @@ impl List {
                 let args = self.padded_args(kind, plane, sides, steps, phase);
                 self.call(kind, &args);
             }
+            let ends = if most == 16 { 4 } else { 1 };
+            for k in 0..ends {
+                let args = self.at_reach(kind, &planes[1], steps, phase, phase / 4 + phase + k);
+                self.call(kind, &args);
+            }
         }
         let plane = planes[1];
         let [bw, bh] = [3, 2];
@@ -418,6 +423,32 @@ impl List {
             ]);
         }
         self.changed(kind, &good, &changes);
+    }
+
+    /// A block of two by two whose window ends with the margins on one axis, or one sample past
+    /// them: the last places that are read from the buffer, and the first that are not.
+    fn at_reach(
+        &mut self,
+        kind: usize,
+        plane: &Plane,
+        steps: i128,
+        phase: i128,
+        end: i128,
+    ) -> Vec<i128> {
+        let (before, behind) = if steps == 4 { (2, 3) } else { (0, 1) };
+        let (first, last) = (before - plane.pad, plane.pw + plane.pad - 2 - behind);
+        let at = [first - 1, first, last, last + 1][(end % 4) as usize];
+        let places = if end / 4 % 2 == 0 { [at, 1] } else { [1, at] };
+        let phases = [phase % steps, phase / steps];
+        let [(x0, mvx), (y0, mvy)] = [0, 1].map(|axis| {
+            let from = self.rng.within(0, 65535) as i128;
+            (from, (places[axis] - from) * steps + phases[axis])
+        });
+        let mut args = [&plane.args()[..], &[x0, y0, 2, 2, mvx, mvy, 4]].concat();
+        if kind == MC_CHROMA_PADDED_PAIR {
+            args.extend([plane.picture.at + 1, plane.picture.len, 4]);
+        }
+        args
     }
 
     fn padded_args(
