@@ -61,8 +61,29 @@ fn average_rows(
     ensures { λ _. ⌜ now (dst .exit) ≡ drawn (now (dst .entry)) bw bh (λ x y. mean (getD (now (a .entry)) (p + y * ts + x) 0) (getD (now (b .entry)) (q + y * ts + x) 0)) ⌝ }
 {
     for r in 0..bh {
-        average::avg_run(a, p + r * ts, b, q + r * ts, bw, dst, r * bw);
+        average::avg_lanes(a, p + r * ts, b, q + r * ts, bw, dst, r * bw);
     }
+}
+
+// Narrow rows are packed first: one long run of averages is vector code, eight averages alone are not.
+fn average_packed(
+    a: &[u8],
+    p: usize,
+    b: &[u8],
+    q: usize,
+    ts: usize,
+    bw: usize,
+    bh: usize,
+    dst: &mut [u8],
+)
+    requires { ⌜ (p + (bh - 1) * ts + bw ≤ length (now a)) × (q + (bh - 1) * ts + bw ≤ length (now b)) × (bw ≤ 8) × (bh ≤ 16) × (bw * bh ≤ length (now dst)) ⌝ }
+    ensures { λ _. ⌜ now (dst .exit) ≡ drawn (now (dst .entry)) bw bh (λ x y. mean (getD (now (a .entry)) (p + y * ts + x) 0) (getD (now (b .entry)) (q + y * ts + x) 0)) ⌝ }
+{
+    let mut x = [0u8; 128];
+    let mut y = [0u8; 128];
+    copy_block(a, p, ts, bw, bh, &mut x);
+    copy_block(b, q, ts, bw, bh, &mut y);
+    average::pixel_avg(&x, &y, bw, bh, dst);
 }
 
 pub fn average_block(
@@ -75,15 +96,15 @@ pub fn average_block(
     bh: usize,
     dst: &mut [u8],
 )
-    requires { ⌜ (p + (bh - 1) * ts + bw ≤ length (now a)) × (q + (bh - 1) * ts + bw ≤ length (now b)) × (bw ≤ 16) × (bw * bh ≤ length (now dst)) ⌝ }
+    requires { ⌜ (p + (bh - 1) * ts + bw ≤ length (now a)) × (q + (bh - 1) * ts + bw ≤ length (now b)) × (bw ≤ 16) × (bh ≤ 16) × (bw * bh ≤ length (now dst)) ⌝ }
     ensures { λ _. ⌜ now (dst .exit) ≡ drawn (now (dst .entry)) bw bh (λ x y. mean (getD (now (a .entry)) (p + y * ts + x) 0) (getD (now (b .entry)) (q + y * ts + x) 0)) ⌝ }
 {
     if bw == 16 {
         average_rows(a, p, b, q, ts, 16, bh, dst);
         return;
     }
-    if bw == 8 {
-        average_rows(a, p, b, q, ts, 8, bh, dst);
+    if bw <= 8 {
+        average_packed(a, p, b, q, ts, bw, bh, dst);
         return;
     }
     average_rows(a, p, b, q, ts, bw, bh, dst);
