@@ -1,9 +1,9 @@
 //! Makes the proved archive where it is missing or out of date, and links a copy of it.
 
-use std::io::ErrorKind;
+use std::io::{ErrorKind, Write};
 use std::path::{Path, PathBuf};
 use std::process::Command;
-use std::time::SystemTime;
+use std::time::{Instant, SystemTime};
 use std::{env, fs};
 
 fn main() {
@@ -43,8 +43,17 @@ fn newest(path: &Path) -> Option<SystemTime> {
     entries.flatten().filter_map(|entry| newest(&entry.path())).max()
 }
 
+/// Says it at once where a person watches: cargo shows what a build script writes only at its end.
+fn tell(text: &str) {
+    if let Ok(mut terminal) = fs::OpenOptions::new().write(true).open("/dev/tty") {
+        let _ = writeln!(terminal, "{text}");
+    }
+}
+
 /// Proves the Rattle crate `inter` and writes its archive.
 fn make(root: &Path) {
+    tell("Proving the library and making its archive (`rt staticlib inter`): about four minutes from nothing, less after a change.");
+    let begun = Instant::now();
     let run = match Command::new("rt").args(["staticlib", "inter"]).current_dir(root).output() {
         Ok(run) => run,
         Err(error) if error.kind() == ErrorKind::NotFound => panic!(
@@ -60,5 +69,8 @@ fn make(root: &Path) {
         String::from_utf8_lossy(&run.stdout),
         String::from_utf8_lossy(&run.stderr)
     );
-    println!("cargo::warning=the archive was proved and made anew by `rt staticlib inter`");
+    println!(
+        "cargo::warning=the archive was proved and made anew by `rt staticlib inter`, in {} s",
+        begun.elapsed().as_secs()
+    );
 }

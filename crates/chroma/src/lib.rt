@@ -42,6 +42,22 @@ pub fn mc_chroma(
     let y = coords::chroma_at(y0, mvy);
     let fx = coords::chroma_phase(mvx);
     let fy = coords::chroma_phase(mvy);
+    if fx + fy == 0 {
+        route::predict_full(
+            reference,
+            0,
+            cw,
+            cw,
+            ch,
+            x,
+            y,
+            coords::CHROMA_BASE,
+            bw,
+            bh,
+            out,
+        );
+        return limits::DONE;
+    }
     route::predict_chroma(reference, 0, cw, cw, ch, x, y, fx, fy, bw, bh, out);
     limits::DONE
 }

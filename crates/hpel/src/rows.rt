@@ -1,50 +1,33 @@
-// Blocks copied from one plane, or averaged from two, row by row at the planes' stride; no byte beyond the block is read.
+// Blocks copied from one plane, or averaged from two, row by row at the planes' stride.
 ghost use mathlib.Core.Path.{_≡_};
+ghost use mathlib.Core.Bool.{true};
 ghost use Prim.Native.Nat.{_+_, _*_, _-_, _≤_};
 ghost use lib.ListN.{length, getD};
 ghost use Rattle.grid.specs.Block.{drawn};
-ghost use Rattle.grid.specs.Run.{put};
+ghost use Rattle.grid.specs.Run.{put, narrow};
 ghost use Rattle.samples.specs.Tap.{mean};
 use blend::average;
 use grid::lanes;
+use kernels::full;
 
-// By way of a local row, so that the row is one move whatever lies where.
-fn copy_row(t: &[u8], p: usize, n: usize, dst: &mut [u8], o: usize)
-    requires { ⌜ (n ≤ 16) × (p + n ≤ length (now t)) × (o + n ≤ length (now dst)) ⌝ }
-    ensures { λ _. ⌜ now (dst .exit) ≡ put (now (dst .entry)) o n (λ i. getD (now (t .entry)) (p + i) 0) ⌝ }
+pub fn copy_block(t: &[u8], p: usize, ts: usize, bw: usize, bh: usize, dst: &mut [u8])
+    requires { ⌜ (p + (bh - 1) * ts + bw ≤ length (now t)) × (1 ≤ bw) × (bw ≤ 16) × (bw * bh ≤ length (now dst)) ⌝ }
+    ensures { λ _. ⌜ now (dst .exit) ≡ drawn (now (dst .entry)) bw bh (λ x y. getD (now (t .entry)) (p + y * ts + x) 0) ⌝ }
+{
+    if full::is_copied(bw) {
+        full::full_block(t, p, ts, bw, bh, dst);
+        return;
+    }
+    full::full_rows(t, p, ts, bw, bh, dst);
+}
+
+fn average_row(a: &[u8], p: usize, b: &[u8], q: usize, n: usize, dst: &mut [u8], o: usize)
+    requires { ⌜ (n ≤ 16) × (p + n ≤ length (now a)) × (q + n ≤ length (now b)) × (o + n ≤ length (now dst)) ⌝ }
+    ensures { λ _. ⌜ now (dst .exit) ≡ put (now (dst .entry)) o n (λ i. mean (getD (now (a .entry)) (p + i) 0) (getD (now (b .entry)) (q + i) 0)) ⌝ }
 {
     let mut z = [0u8; 16];
-    grid::copy_run(t, p, n, &mut z, 0);
+    average::mean_lanes(a, p, b, q, n, &mut z);
     lanes::store(&z, n, dst, o);
-}
-
-fn copy_rows(t: &[u8], p: usize, ts: usize, bw: usize, bh: usize, dst: &mut [u8])
-    requires { ⌜ (p + (bh - 1) * ts + bw ≤ length (now t)) × (bw ≤ 16) × (bw * bh ≤ length (now dst)) ⌝ }
-    ensures { λ _. ⌜ now (dst .exit) ≡ drawn (now (dst .entry)) bw bh (λ x y. getD (now (t .entry)) (p + y * ts + x) 0) ⌝ }
-{
-    for r in 0..bh {
-        copy_row(t, p + r * ts, bw, dst, r * bw);
-    }
-}
-
-// A literal width makes each row one move.
-pub fn copy_block(t: &[u8], p: usize, ts: usize, bw: usize, bh: usize, dst: &mut [u8])
-    requires { ⌜ (p + (bh - 1) * ts + bw ≤ length (now t)) × (bw ≤ 16) × (bw * bh ≤ length (now dst)) ⌝ }
-    ensures { λ _. ⌜ now (dst .exit) ≡ drawn (now (dst .entry)) bw bh (λ x y. getD (now (t .entry)) (p + y * ts + x) 0) ⌝ }
-{
-    if bw == 16 {
-        copy_rows(t, p, ts, 16, bh, dst);
-        return;
-    }
-    if bw == 8 {
-        copy_rows(t, p, ts, 8, bh, dst);
-        return;
-    }
-    if bw == 4 {
-        copy_rows(t, p, ts, 4, bh, dst);
-        return;
-    }
-    copy_rows(t, p, ts, bw, bh, dst);
 }
 
 fn average_rows(
@@ -61,12 +44,21 @@ fn average_rows(
     ensures { λ _. ⌜ now (dst .exit) ≡ drawn (now (dst .entry)) bw bh (λ x y. mean (getD (now (a .entry)) (p + y * ts + x) 0) (getD (now (b .entry)) (q + y * ts + x) 0)) ⌝ }
 {
     for r in 0..bh {
-        average::avg_lanes(a, p + r * ts, b, q + r * ts, bw, dst, r * bw);
+        average_row(a, p + r * ts, b, q + r * ts, bw, dst, r * bw);
     }
 }
 
-// Narrow rows are packed first: one long run of averages is vector code, eight averages alone are not.
-fn average_packed(
+// Sixteen averages are vector code, eight are not: sixteen are read of each row, and the first eight or four stored.
+fn average_narrow_row(a: &[u8], p: usize, b: &[u8], q: usize, n: usize, dst: &mut [u8], o: usize)
+    requires { ⌜ (narrow n ≡ true) × (p + 16 ≤ length (now a)) × (q + 16 ≤ length (now b)) × (o + n ≤ length (now dst)) ⌝ }
+    ensures { λ _. ⌜ now (dst .exit) ≡ put (now (dst .entry)) o n (λ i. mean (getD (now (a .entry)) (p + i) 0) (getD (now (b .entry)) (q + i) 0)) ⌝ }
+{
+    let mut z = [0u8; 16];
+    average::mean_lanes(a, p, b, q, 16, &mut z);
+    lanes::store_narrow(&z, n, dst, o);
+}
+
+fn average_narrow(
     a: &[u8],
     p: usize,
     b: &[u8],
@@ -76,16 +68,15 @@ fn average_packed(
     bh: usize,
     dst: &mut [u8],
 )
-    requires { ⌜ (p + (bh - 1) * ts + bw ≤ length (now a)) × (q + (bh - 1) * ts + bw ≤ length (now b)) × (bw ≤ 8) × (bh ≤ 16) × (bw * bh ≤ length (now dst)) ⌝ }
+    requires { ⌜ (p + (bh - 1) * ts + 16 ≤ length (now a)) × (q + (bh - 1) * ts + 16 ≤ length (now b)) × (narrow bw ≡ true) × (bw * bh ≤ length (now dst)) ⌝ }
     ensures { λ _. ⌜ now (dst .exit) ≡ drawn (now (dst .entry)) bw bh (λ x y. mean (getD (now (a .entry)) (p + y * ts + x) 0) (getD (now (b .entry)) (q + y * ts + x) 0)) ⌝ }
 {
-    let mut x = [0u8; 128];
-    let mut y = [0u8; 128];
-    copy_block(a, p, ts, bw, bh, &mut x);
-    copy_block(b, q, ts, bw, bh, &mut y);
-    average::pixel_avg(&x, &y, bw, bh, dst);
+    for r in 0..bh {
+        average_narrow_row(a, p + r * ts, b, q + r * ts, bw, dst, r * bw);
+    }
 }
 
+// No byte beyond the planes is read: where a row has no sixteen, it is averaged by its own width.
 pub fn average_block(
     a: &[u8],
     p: usize,
@@ -96,15 +87,16 @@ pub fn average_block(
     bh: usize,
     dst: &mut [u8],
 )
-    requires { ⌜ (p + (bh - 1) * ts + bw ≤ length (now a)) × (q + (bh - 1) * ts + bw ≤ length (now b)) × (bw ≤ 16) × (bh ≤ 16) × (bw * bh ≤ length (now dst)) ⌝ }
+    requires { ⌜ (1 ≤ bh) × (p + (bh - 1) * ts + bw ≤ length (now a)) × (q + (bh - 1) * ts + bw ≤ length (now b)) × (bw ≤ 16) × (bw * bh ≤ length (now dst)) ⌝ }
     ensures { λ _. ⌜ now (dst .exit) ≡ drawn (now (dst .entry)) bw bh (λ x y. mean (getD (now (a .entry)) (p + y * ts + x) 0) (getD (now (b .entry)) (q + y * ts + x) 0)) ⌝ }
 {
     if bw == 16 {
         average_rows(a, p, b, q, ts, 16, bh, dst);
         return;
     }
-    if bw <= 8 {
-        average_packed(a, p, b, q, ts, bw, bh, dst);
+    let last = (bh - 1) * ts;
+    if lanes::is_narrow(bw) & (16 <= a.len() - p - last) & (16 <= b.len() - q - last) {
+        average_narrow(a, p, b, q, ts, bw, bh, dst);
         return;
     }
     average_rows(a, p, b, q, ts, bw, bh, dst);

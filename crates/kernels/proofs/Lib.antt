@@ -1,2 +1,4 @@
 -- Laws that proofs of this crate cite.
+mod Pairs
+mod Phases
 mod Sums

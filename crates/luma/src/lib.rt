@@ -44,6 +44,22 @@ pub fn mc_luma(
     let y = coords::luma_at(y0, mvy);
     let fx = coords::luma_phase(mvx);
     let fy = coords::luma_phase(mvy);
+    if fx + fy == 0 {
+        route::predict_full(
+            reference,
+            0,
+            cw,
+            cw,
+            ch,
+            x,
+            y,
+            coords::LUMA_BASE,
+            bw,
+            bh,
+            out,
+        );
+        return limits::DONE;
+    }
     route::predict_luma(reference, 0, cw, cw, ch, x, y, fx, fy, bw, bh, out);
     limits::DONE
 }

@@ -40,6 +40,10 @@ pub in-both : (before behind base x y bw bh w h pad : ℕ) → passes before beh
 in-both before behind base x y bw bh w h pad e =
     let b = both (inReach before behind (subℕ x base) bw w pad) (inReach before behind (subℕ y base) bh h pad) e in (reached before behind x base bw w pad (b .0), reached before behind y base bh h pad (b .1))
 
+-- THE AREA lies in the buffer, and the place in it is small
+abbrev pub Inside : (h pad stride : ℕ) → Area → Type 0
+Inside h pad stride a = (0 < a .w) × (0 < a .h) × (a .p + (a .h - 1) * stride + a .w ≤ stride * (h + 2 * pad)) × (a .x < 2 ^ 31) × (a .y < 2 ^ 31)
+
 module _ (before behind base x y bw bh w h pad : ℕ) where
   abbrev passed : Bool
   passed = passes before behind base x y bw bh w h pad
@@ -55,14 +59,10 @@ module _ (before behind base x y bw bh w h pad : ℕ) where
   near-in n z pad b c i p q k l = omega arith
 
   module _ (stride : ℕ) {a : Area} (is : a ≡ areaOf passed stride pad w h x y) where
-    -- THE AREA lies in the buffer, and the place in it is small
-    abbrev Inside : Area → Type 0
-    Inside a = (0 < a .w) × (0 < a .h) × (a .p + (a .h - 1) * stride + a .w ≤ stride * (h + 2 * pad)) × (a .x < 2 ^ 31) × (a .y < 2 ^ 31)
-
-    pub area-in : (1 ≤ w) × (w ≤ 8192) × (1 ≤ h) × (h ≤ 8192) × (pad ≤ 128) × (w + 2 * pad ≤ stride) × (base < 2 ^ 30) × (x < 2 ^ 31) × (y < 2 ^ 31) → Inside a
-    area-in s = subst Inside (sym is) (by passed refl)
+    pub area-in : (1 ≤ w) × (w ≤ 8192) × (1 ≤ h) × (h ≤ 8192) × (pad ≤ 128) × (w + 2 * pad ≤ stride) × (base < 2 ^ 30) × (x < 2 ^ 31) × (y < 2 ^ 31) → Inside h pad stride a
+    area-in s = subst (Inside h pad stride) (sym is) (by passed refl)
       where
-        by : (d : Bool) → passed ≡ d → Inside (areaOf d stride pad w h x y)
+        by : (d : Bool) → passed ≡ d → Inside h pad stride (areaOf d stride pad w h x y)
         by true e =
             let t = in-both before behind base x y bw bh w h pad e in
             let n : h + 2 * pad - 1 + 1 ≤ h + 2 * pad = omega (arith, s) in

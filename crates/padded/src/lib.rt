@@ -100,6 +100,22 @@ fn luma_block(
     let fx = coords::luma_phase(mvx);
     let fy = coords::luma_phase(mvy);
     let at = area_of(g, coords::LUMA_BASE, 2, 3, x, y, bw, bh);
+    if fx + fy == 0 {
+        route::predict_full(
+            padded,
+            at.p,
+            g.stride,
+            at.w,
+            at.h,
+            at.x,
+            at.y,
+            coords::LUMA_BASE,
+            bw,
+            bh,
+            out,
+        );
+        return;
+    }
     route::predict_luma(
         padded,
         at.p,
@@ -116,11 +132,9 @@ fn luma_block(
     );
 }
 
-// The same with lent scratch.
+// The same with the tile in lent scratch.
 fn luma_block_with(
     tile: &mut [u8],
-    a: &mut [u8],
-    b: &mut [u8],
     padded: &[u8],
     g: Geometry,
     x0: usize,
@@ -131,7 +145,7 @@ fn luma_block_with(
     mvy: i32,
     out: &mut [u8],
 )
-    requires { ⌜ (1 ≤ g .pw) × (g .pw ≤ 8192) × (1 ≤ g .ph) × (g .ph ≤ 8192) × (g .pad ≤ 128) × (g .pw + 2 * g .pad ≤ g .stride) × (g .stride ≤ 16384) × (g .stride * (g .ph + 2 * g .pad) ≤ length (now padded)) × (x0 ≤ 65535) × (y0 ≤ 65535) × (1 ≤ bw) × (bw ≤ 16) × (1 ≤ bh) × (bh ≤ 16) × (bw * bh ≤ length (now out)) × (441 ≤ length (now tile)) × (256 ≤ length (now a)) × (256 ≤ length (now b)) ⌝ }
+    requires { ⌜ (1 ≤ g .pw) × (g .pw ≤ 8192) × (1 ≤ g .ph) × (g .ph ≤ 8192) × (g .pad ≤ 128) × (g .pw + 2 * g .pad ≤ g .stride) × (g .stride ≤ 16384) × (g .stride * (g .ph + 2 * g .pad) ≤ length (now padded)) × (x0 ≤ 65535) × (y0 ≤ 65535) × (1 ≤ bw) × (bw ≤ 16) × (1 ≤ bh) × (bh ≤ 16) × (bw * bh ≤ length (now out)) × (441 ≤ length (now tile)) ⌝ }
     ensures { λ _. ⌜ now (out .exit) ≡ drawn (now (out .entry)) bw bh (paddedLuma (now (padded .entry)) (g .stride) (g .pad) (g .pw) (g .ph) x0 y0 bw bh mvx mvy) ⌝ }
 {
     let x = coords::luma_at(x0, mvx);
@@ -139,10 +153,24 @@ fn luma_block_with(
     let fx = coords::luma_phase(mvx);
     let fy = coords::luma_phase(mvy);
     let at = area_of(g, coords::LUMA_BASE, 2, 3, x, y, bw, bh);
+    if fx + fy == 0 {
+        route::predict_full(
+            padded,
+            at.p,
+            g.stride,
+            at.w,
+            at.h,
+            at.x,
+            at.y,
+            coords::LUMA_BASE,
+            bw,
+            bh,
+            out,
+        );
+        return;
+    }
     route::predict_luma_with(
         tile,
-        a,
-        b,
         padded,
         at.p,
         g.stride,
@@ -178,6 +206,22 @@ fn chroma_block(
     let fx = coords::chroma_phase(mvx);
     let fy = coords::chroma_phase(mvy);
     let at = area_of(g, coords::CHROMA_BASE, 0, 1, x, y, bw, bh);
+    if fx + fy == 0 {
+        route::predict_full(
+            padded,
+            at.p,
+            g.stride,
+            at.w,
+            at.h,
+            at.x,
+            at.y,
+            coords::CHROMA_BASE,
+            bw,
+            bh,
+            out,
+        );
+        return;
+    }
     route::predict_chroma(
         padded,
         at.p,
@@ -299,7 +343,7 @@ pub fn mc_luma_padded_slices(
     if no != limits::DONE {
         return no;
     }
-    luma_block_with(tile, a, b, padded, g, x0, y0, bw, bh, mvx, mvy, out);
+    luma_block_with(tile, padded, g, x0, y0, bw, bh, mvx, mvy, out);
     limits::DONE
 }
 
@@ -332,6 +376,116 @@ fn shorter(m: usize, n: usize) -> usize
     if m < n { m } else { n }
 }
 
+// A block of each of two planes of one geometry, of which nothing is refused: located once.
+fn chroma_pair(
+    pu: &[u8],
+    pv: &[u8],
+    g: Geometry,
+    x0: usize,
+    y0: usize,
+    bw: usize,
+    bh: usize,
+    mvx: i32,
+    mvy: i32,
+    outu: &mut [u8],
+    outv: &mut [u8],
+)
+    requires { ⌜ (1 ≤ g .pw) × (g .pw ≤ 8192) × (1 ≤ g .ph) × (g .ph ≤ 8192) × (g .pad ≤ 128) × (g .pw + 2 * g .pad ≤ g .stride) × (g .stride ≤ 16384) × (g .stride * (g .ph + 2 * g .pad) ≤ length (now pu)) × (g .stride * (g .ph + 2 * g .pad) ≤ length (now pv)) × (x0 ≤ 65535) × (y0 ≤ 65535) × (1 ≤ bw) × (bw ≤ 8) × (1 ≤ bh) × (bh ≤ 8) × (bw * bh ≤ length (now outu)) × (bw * bh ≤ length (now outv)) ⌝ }
+    ensures { λ _. ⌜ (now (outu .exit) ≡ drawn (now (outu .entry)) bw bh (paddedChroma (now (pu .entry)) (g .stride) (g .pad) (g .pw) (g .ph) x0 y0 bw bh mvx mvy))
+        × (now (outv .exit) ≡ drawn (now (outv .entry)) bw bh (paddedChroma (now (pv .entry)) (g .stride) (g .pad) (g .pw) (g .ph) x0 y0 bw bh mvx mvy)) ⌝ }
+{
+    let x = coords::chroma_at(x0, mvx);
+    let y = coords::chroma_at(y0, mvy);
+    let fx = coords::chroma_phase(mvx);
+    let fy = coords::chroma_phase(mvy);
+    let area = area_of(g, coords::CHROMA_BASE, 0, 1, x, y, bw, bh);
+    let len = shorter(pu.len(), pv.len());
+    if fx + fy == 0 {
+        let s = route::locate_full(
+            len,
+            area.p,
+            g.stride,
+            area.w,
+            area.h,
+            area.x,
+            area.y,
+            coords::CHROMA_BASE,
+            bw,
+            bh,
+        );
+        route::full_from(
+            s,
+            pu,
+            area.p,
+            g.stride,
+            area.w,
+            area.h,
+            area.x,
+            area.y,
+            coords::CHROMA_BASE,
+            bw,
+            bh,
+            outu,
+        );
+        route::full_from(
+            s,
+            pv,
+            area.p,
+            g.stride,
+            area.w,
+            area.h,
+            area.x,
+            area.y,
+            coords::CHROMA_BASE,
+            bw,
+            bh,
+            outv,
+        );
+        return;
+    }
+    let s = route::locate_chroma(
+        len,
+        area.p,
+        g.stride,
+        area.w,
+        area.h,
+        area.x,
+        area.y,
+        bw,
+        bh,
+    );
+    route::chroma_from(
+        s,
+        pu,
+        area.p,
+        g.stride,
+        area.w,
+        area.h,
+        area.x,
+        area.y,
+        fx,
+        fy,
+        bw,
+        bh,
+        outu,
+    );
+    route::chroma_from(
+        s,
+        pv,
+        area.p,
+        g.stride,
+        area.w,
+        area.h,
+        area.x,
+        area.y,
+        fx,
+        fy,
+        bw,
+        bh,
+        outv,
+    );
+}
+
 // Both chroma planes at once: the shorter plane and the shorter output decide, and a refusal writes neither.
 pub fn mc_chroma_padded_pair(
     pu: &[u8],
@@ -356,7 +510,6 @@ pub fn mc_chroma_padded_pair(
     if no != limits::DONE {
         return no;
     }
-    chroma_block(pu, g, x0, y0, bw, bh, mvx, mvy, outu);
-    chroma_block(pv, g, x0, y0, bw, bh, mvx, mvy, outv);
+    chroma_pair(pu, pv, g, x0, y0, bw, bh, mvx, mvy, outu, outv);
     limits::DONE
 }

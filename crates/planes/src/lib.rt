@@ -63,8 +63,7 @@ fn build_lanes(
         × (now (c .exit) ≡ put (now (c .entry)) o n (λ i. centre 255 (windowAt (now (t .entry)) p ts i 0))) ⌝ }
 {
     halves::half_row(t, p + 2 * ts, 1, n, h, o);
-    halves::half_row(t, p + 2, ts, n, v, o);
-    centre::centre_row(t, p, ts, n, c, o);
+    centre::down_and_centre_row(t, p, ts, n, v, c, o);
 }
 
 // The n samples of each plane from column x of row y on: read in place where their windows lie inside f, else by way of a tile.

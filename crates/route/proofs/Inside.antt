@@ -26,6 +26,10 @@ near-on base n at i e a b c = omega arith
 pub room-of : {len p stride w h x y base ew eh lanes at : ℕ} → Lies len p stride w h x y base ew eh lanes at → (n : ℕ) → eh ≡ n + 1 → at + n * stride + lanes ≤ len
 room-of {stride = stride} {eh = eh} l n e = let f : eh - 1 ≡ n = omega arith in omega (arith, l .room, ap (λ (k : ℕ). k * stride) f)
 
+-- in a longer buffer it lies as well
+pub longer : {len m p stride w h x y base ew eh lanes at : ℕ} → Lies len p stride w h x y base ew eh lanes at → len ≤ m → Lies m p stride w h x y base ew eh lanes at
+longer l b = record { left = l .left; right = l .right; above = l .above; below = l .below; start = l .start; room = omega (arith, l .room) }
+
 -- READING IN PLACE: a sample of the window at (x, y)
 pub in-place : (src : List ℕ) {len p stride w h x y base ew eh lanes at : ℕ} → Lies len p stride w h x y base ew eh lanes at
     → (i j : ℕ) → i < ew → j < eh → nearArea src p stride w h base (x + i) (y + j) ≡ getD src (at + j * stride + i) 0

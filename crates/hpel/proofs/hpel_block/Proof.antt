@@ -106,7 +106,7 @@ hpel-block-spec =
     (λ c. search needs)
     (λ c κs. search needs)
     (λ c κs. let k = place1 (c .before .before .before .before) in first-asks _ _ _ _ _ _ _ _ _ _ _ (spot k .0) (spot k .1) (ok (served k) .0) (looks k .phase-at .result .q) (near (looks k) .1))
-    (λ c κs. let k = ok (served (place2 (c .before))) in (room1 (c .before .before .before .before .before .before), room2 (c .before), k .0 .0 .bw2, k .0 .0 .bh2, k .1))
+    (λ c κs. let k = ok (served (place2 (c .before))) in (k .0 .0 .bh1, room1 (c .before .before .before .before .before .before), room2 (c .before), k .0 .0 .bw2, k .1))
     (λ c. search needs)
     (λ c.
     let r = c .before .before in
@@ -117,7 +117,7 @@ hpel-block-spec =
       averaged _ _ _ _ _ _ _ _ _ _ (place k .0) (place k .1) _ _ _ _ (looked (looks k)) (g .before .before .before .before .before .before .choose .ensures, g .before .before .before .before .before .first-at .ensures)
           (g .before .choose2 .ensures, g .first-at2 .ensures) (r .average-block .ensures),
     ))
-    (λ c κs. let k = ok (served (place1 (c .before .before .before))) in (room1 (c .before .before .before), k .0 .0 .bw2, k .1))
+    (λ c κs. let k = ok (served (place1 (c .before .before .before))) in (room1 (c .before .before .before), k .0 .0 .bw1, k .0 .0 .bw2, k .1))
     (λ c. search needs)
     (λ c.
     let r = c .before .before in

@@ -1,4 +1,4 @@
--- `padded::mc_chroma_padded_pair` meets its contract: the shorter lengths decide, then `chroma_block` twice. Assumes nothing.
+-- `padded::mc_chroma_padded_pair` meets its contract: the shorter lengths decide, then `chroma_pair`. Assumes nothing.
 use borrow.Author.Needs.{needs}
 use mathlib.Core.Path.{_≡_, sym, ap₂, _∙_}
 use Prim.Native.Nat.{ℕ, min}
@@ -37,16 +37,14 @@ mc-chroma-padded-pair-spec =
     (λ c κs. search needs)
     (λ c κs. search needs)
     (λ c. (answer (c .before), kept _ _ _ (c .if1 .taken), kept _ _ _ (c .if1 .taken)))
-    (λ c κs. omega (arith, ok (c .before)))
-    (λ c κs. omega (arith, ok (c .before .before .before .before .before)))
+    (λ c κs. omega (arith, ok (c .before .before)))
     (λ c. search needs)
     (λ c. search needs)
     (λ c.
-    let v = c .before .before in
-    let u = v .before .before .before .before in
-    let k = u .before .before in
+    let f = c .before .before .before .before in
+    let k = f .before .before .before in
     let s = entry (k .before) in (
       sym (k .if1 .left) ∙ answer (k .before),
-      simp (toZ-ofZ (s .fits .mvx), toZ-ofZ (s .fits .mvy)) at (u .chroma-block .ensures),
-      simp (toZ-ofZ (s .fits .mvx), toZ-ofZ (s .fits .mvy)) at (v .chroma-block2 .ensures),
+      simp (toZ-ofZ (s .fits .mvx), toZ-ofZ (s .fits .mvy)) at (f .chroma-pair .ensures .0),
+      simp (toZ-ofZ (s .fits .mvx), toZ-ofZ (s .fits .mvy)) at (f .chroma-pair .ensures .1),
     )))

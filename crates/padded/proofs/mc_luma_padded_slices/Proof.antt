@@ -29,14 +29,12 @@ mc-luma-padded-slices-spec =
     (tie.spec
     (λ c κs. search needs)
     (λ c. let r = c .if1 .taken in (c .before .check-lent .ensures, kept _ _ _ r, kept _ _ _ r, kept _ _ _ r, kept _ _ _ r))
-    (λ c κs. let k = c .before .before .before .before in omega (arith, slices-ok _ _ _ _ _ _ _ _ _ _ _ _ _ (sym (k .if1 .left) ∙ k .before .check-lent .ensures)))
-    (λ c. search needs)
-    (λ c. search needs)
+    (λ c κs. let k = c .before .before in omega (arith, slices-ok _ _ _ _ _ _ _ _ _ _ _ _ _ (sym (k .if1 .left) ∙ k .before .check-lent .ensures)))
     (λ c. search needs)
     (λ c. search needs)
     (λ c.
-    let f = c .before .before .before .before .before .before .before .before in
-    let k = f .before .before .before .before .before in
+    let f = c .before .before .before .before in
+    let k = f .before .before .before in
     let s = k .before .before .before .before .before .before .before in (
       sym (k .if1 .left) ∙ k .before .check-lent .ensures,
       simp (toZ-ofZ (s .fits .mvx), toZ-ofZ (s .fits .mvy)) at (f .luma-block-with .ensures),

@@ -1,4 +1,4 @@
--- `planes::build_lanes` meets its contract: rows of half samples at step 1 and at step ts, and a row of centres. Assumes nothing.
+-- `planes::build_lanes` meets its contract: a row of half samples at step 1, and a row of half samples and of centres over one row of sums. Assumes nothing.
 use borrow.Author.Needs.{needs}
 use mathlib.Core.Path.{_≡_, ap, _∙_}
 use mathlib.Core.List.{List}
@@ -22,16 +22,15 @@ taps t q s at e = half-cong 255 _ _ (λ k. ap (λ (i : ℕ). getD t i 0) (e k))
 returns : tie.Need-returns
 unfolding windowAt
 returns c =
-    let m = c .before .before in
-    let v = m .before .before .before .before in
-    let h = v .before .before .before .before in
+    let m = c .before .before .before .before in
+    let h = m .before .before .before .before .before in
     let a = h .before .before .before .before .before .before .args in (
       h .half-row .ensures ∙ put-ext (now (a .h)) (a .o) (a .n) _ _ (λ i _. taps (now (a .t)) _ _ (λ k. a .p + (0 + 2) * a .ts + (i + k)) (λ k. omega arith)),
-      v .half-row2 .ensures ∙ put-ext (now (a .v)) (a .o) (a .n) _ _ (λ i _. taps (now (a .t)) _ _ (λ k. a .p + (0 + k) * a .ts + (i + 2)) (λ k. omega arith)),
-      m .centre-row .ensures,
+      m .down-and-centre-row .ensures .0 ∙ put-ext (now (a .v)) (a .o) (a .n) _ _ (λ i _. taps (now (a .t)) _ _ (λ k. a .p + (0 + k) * a .ts + (i + 2)) (λ k. omega arith)),
+      m .down-and-centre-row .ensures .1,
     )
 
-centres-require : tie.Need-centre-row-requires
+centres-require : tie.Need-down-and-centre-row-requires
 centres-require c κs = search needs
 
 pub build-lanes-spec : {M : Type 1} → statement M
@@ -39,8 +38,6 @@ build-lanes-spec =
     tie.close
     (tie.spec
     (λ c. search needs)
-    (λ c. search needs)
-    (λ c κs. search needs)
     (λ c. search needs)
     (λ c κs. search needs)
     centres-require

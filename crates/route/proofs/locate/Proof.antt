@@ -1,32 +1,24 @@
--- `route::locate` meets its contract: each test in turn, and what they leave. Assumes nothing.
+-- `route::locate` meets its contract: a window inside, with its lanes. Assumes nothing.
 use borrow.Author.Needs.{needs}
 use mathlib.Core.Bool.{false≢true}
-use Prim.Native.Nat.{_+_, _*_, _-_, _≤_}
 use native.Mathlib.Omega.{arith}
-use Rattle.route.proofs.Inside.{rows-in}
+use Rattle.route.specs.Area.{Lies}
 use Rattle.route.proofs.locate.Statement.{statement}
 use Rattle.route.proofs.locate.Tie as tie
 
--- the window's rows end with the area's
-ends : (c : tie.Else4) → let a = c .before .before .before .before .args in (a .y - a .base) * a .stride + (a .eh - 1) * a .stride ≤ (a .h - 1) * a .stride
-ends c = rows-in _ _ _ _ (omega arith) (omega arith)
+lies : (c : tie.Then1) → let a = c .before .before .args in
+    Lies (a .len) (a .p) (a .stride) (a .w) (a .h) (a .x) (a .y) (a .base) (a .ew) (a .eh) (a .ew) (c .before .spot-in .result .at)
+lies c = c .before .spot-in .ensures (c .if1 .taken)
 
 pub locate-spec : {M : Type 1} → statement M
 locate-spec =
     tie.close
     (tie.spec
+    (λ c κs. search needs)
+    (λ c. omega arith)
+    (λ c. omega (arith, lies c .room))
+    (λ c. omega (arith, lies (c .before) .room))
+    (λ c. omega (arith, lies (c .before) .room))
+    (λ c e. let l = lies (c .before .before) in record { left = l .left; right = l .right; above = l .above; below = l .below; start = l .start; room = omega arith })
     (λ c e. absurd (false≢true e))
-    (λ c e. absurd (false≢true e))
-    (λ c. search needs)
-    (λ c e. absurd (false≢true e))
-    (λ c. search needs)
-    (λ c e. absurd (false≢true e))
-    (λ c. omega (arith, ends c))
-    (λ c. omega (arith, ends c))
-    (λ c. omega (arith, ends c))
-    (λ c. search needs)
-    (λ c. omega (arith, ends c))
-    (λ c. omega (arith, ends c))
-    (λ c. omega (arith, ends c))
-    (λ c e. absurd (false≢true e))
-    (λ c e. record { left = omega arith; right = omega arith; above = omega arith; below = omega arith; start = omega arith; room = omega (arith, ends (c .before)) }))
+    (λ c e. absurd (false≢true e)))

@@ -18,7 +18,7 @@ returns c =
     let d = c .before .before in
     let t = d .before .before .before .before in
     let a = t .before .before .before .before .args in
-    d .luma-direct .ensures
+    d .luma-block .ensures
     ∙ tiled-luma (now (a .out)) (now (a .src)) (a .p) (a .stride) (a .w) (a .h) (a .x) (a .y) (a .fx) (a .fy) (a .bw) (a .bh) _ (t .luma-tile-into .ensures)
 
 pub luma-tiled-spec : {M : Type 1} → statement M

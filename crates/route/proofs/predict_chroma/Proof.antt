@@ -1,49 +1,14 @@
--- `route::predict_chroma` meets its contract: each way to read gives the samples nearest to the windows' places. Assumes nothing.
+-- `route::predict_chroma` meets its contract: located, then read. Assumes nothing.
 use borrow.Author.Needs.{needs}
-use mathlib.Core.Path.{_∙_}
-use Prim.Native.Nat.{_+_, _^_}
 use native.Mathlib.Omega.{arith}
-use lib.ListN.{length}
-use denote.Ref.{now}
-use Rattle.route.specs.Area.{Lies}
-use Rattle.route.proofs.Inside.{room-of, full-chroma, placed-chroma}
 use Rattle.route.proofs.predict_chroma.Statement.{statement}
 use Rattle.route.proofs.predict_chroma.Tie as tie
-
-lies : (c : tie.Then2) → let a = c .before .before .before .before .before .args in
-    Lies (length (now (a .src))) (a .p) (a .stride) (a .w) (a .h) (a .x) (a .y) (2 ^ 28) (a .bw + 1) (a .bh + 1) 9 (c .before .locate .result .at)
-lies c = c .before .locate .ensures (c .if2 .taken)
-
-returns : tie.Need-returns
-returns c =
-    let f = c .before .before in
-    let k = f .before .before in
-    let a = k .before .before .before .args in
-    f .predict-full .ensures
-    ∙ full-chroma (now (a .out)) (now (a .src)) (a .p) (a .stride) (a .w) (a .h) (a .x) (a .y) (a .fx) (a .fy) (a .bw) (a .bh) (k .if1 .taken)
-
-returns-2 : tie.Need-returns-2
-returns-2 c =
-    let f = c .before .before in
-    let k = f .before .before in
-    let a = k .before .before .before .before .before .args in
-    f .chroma-block .ensures
-    ∙ placed-chroma (now (a .out)) (now (a .src)) (a .p) (a .stride) (a .w) (a .h) (a .x) (a .y) (a .fx) (a .fy) (a .bw) (a .bh) (lies k)
 
 pub predict-chroma-spec : {M : Type 1} → statement M
 predict-chroma-spec =
     tie.close
     (tie.spec
-    (λ c. search needs)
     (λ c κs. search needs)
+    (λ c κs. (c .before .locate-chroma .ensures, omega arith, omega arith, omega arith, omega arith, omega arith, omega arith, omega arith, omega arith, omega arith, omega arith, omega arith))
     (λ c. search needs)
-    returns
-    (λ c. search needs)
-    (λ c. search needs)
-    (λ c κs. search needs)
-    (λ c κs. let k = c .before in omega (arith, room-of (lies k) (k .before .before .before .before .before .args .bh) (omega arith)))
-    (λ c. search needs)
-    returns-2
-    (λ c κs. search needs)
-    (λ c. search needs)
-    (λ c. search needs))
+    (λ c. c .before .before .chroma-from .ensures))

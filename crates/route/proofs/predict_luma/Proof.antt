@@ -6,28 +6,20 @@ use native.Mathlib.Omega.{arith}
 use lib.ListN.{length}
 use denote.Ref.{now}
 use Rattle.route.specs.Area.{Lies}
-use Rattle.route.proofs.Inside.{room-of, full-luma, placed-luma}
+use Rattle.route.proofs.Inside.{room-of, placed-luma}
 use Rattle.route.proofs.predict_luma.Statement.{statement}
 use Rattle.route.proofs.predict_luma.Tie as tie
 
-lies : (c : tie.Then2) → let a = c .before .before .before .before .before .args in
+lies : (c : tie.Then1) → let a = c .before .before .before .before .args in
     Lies (length (now (a .src))) (a .p) (a .stride) (a .w) (a .h) (a .x) (a .y) (2 ^ 29 + 2) (a .bw + 5) (a .bh + 5) 21 (c .before .locate .result .at)
-lies c = c .before .locate .ensures (c .if2 .taken)
+lies c = c .before .locate .ensures (c .if1 .taken)
 
 returns : tie.Need-returns
 returns c =
     let f = c .before .before in
     let k = f .before .before in
-    let a = k .before .before .before .args in
-    f .predict-full .ensures
-    ∙ full-luma (now (a .out)) (now (a .src)) (a .p) (a .stride) (a .w) (a .h) (a .x) (a .y) (a .fx) (a .fy) (a .bw) (a .bh) (k .if1 .taken)
-
-returns-2 : tie.Need-returns-2
-returns-2 c =
-    let f = c .before .before in
-    let k = f .before .before in
-    let a = k .before .before .before .before .before .args in
-    f .luma-direct .ensures
+    let a = k .before .before .before .before .args in
+    f .luma-block .ensures
     ∙ placed-luma (now (a .out)) (now (a .src)) (a .p) (a .stride) (a .w) (a .h) (a .x) (a .y) (a .fx) (a .fy) (a .bw) (a .bh) (lies k)
 
 pub predict-luma-spec : {M : Type 1} → statement M
@@ -35,16 +27,12 @@ predict-luma-spec =
     tie.close
     (tie.spec
     (λ c. search needs)
+    (λ c. search needs)
+    (λ c. search needs)
     (λ c κs. search needs)
+    (λ c κs. let k = c .before in omega (arith, room-of (lies k) (k .before .before .before .before .args .bh + 4) (omega arith)))
     (λ c. search needs)
     returns
-    (λ c. search needs)
-    (λ c. search needs)
-    (λ c. search needs)
-    (λ c κs. search needs)
-    (λ c κs. let k = c .before in omega (arith, room-of (lies k) (k .before .before .before .before .before .args .bh + 4) (omega arith)))
-    (λ c. search needs)
-    returns-2
     (λ c κs. search needs)
     (λ c. search needs)
     (λ c. search needs))

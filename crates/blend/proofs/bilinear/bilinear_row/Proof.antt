@@ -13,4 +13,4 @@ bilinear-row-spec =
     (λ c κs. search needs)
     (λ c κs. search needs)
     (λ c. search needs)
-    (λ c. stored _ _ _ _ (c .before .before .store-narrow .ensures) (c .before .before .before .before .before .before .bilinear-lanes .ensures) (omega arith)))
+    (λ c. stored _ _ _ _ (c .before .before .store-two .ensures) (c .before .before .before .before .before .before .bilinear-lanes .ensures) (omega arith)))

@@ -1,36 +1,25 @@
--- `blend::bilinear::chroma_block` meets its contract. The loop's invariant: the first r rows are written. Assumes nothing.
-use mathlib.Core.Path.{ap}
-use Prim.Native.Nat.{_-_}
-use native.Mathlib.Omega.{arith}
-use Rattle.grid.proofs.Loop.{Rows, rows-none, rows-more, rows-done}
-use Rattle.samples.specs.Bilinear.{chromaSample}
-use Rattle.samples.specs.Kernel.{windowAt}
-use Rattle.samples.proofs.Rows.{row-in, window-at}
+-- `blend::bilinear::chroma_block` meets its contract: rows four at a time where the tests allow it, else one at a time. Assumes nothing.
+use mathlib.Core.Path.{sym, _∙_}
+use borrow.Author.Needs.{needs}
+use borrow.Author.Tests.{eqb-true}
+use Rattle.samples.proofs.Reach.{both}
 use Rattle.blend.proofs.bilinear.chroma_block.Statement.{statement}
 use Rattle.blend.proofs.bilinear.chroma_block.Tie as tie
-
-abbrev Inv-loop : tie.InvT-loop
-Inv-loop t p ts fx fy bw bh dst₀ x y r₀ dst r = Rows dst₀ bw bh (λ c r. chromaSample fx fy (windowAt t p ts c r)) r dst
-
-abbrev μ-loop : tie.MeasureT-loop
-μ-loop t p ts fx fy bw bh dst₀ x y r₀ dst r = bh - r
 
 pub chroma-block-spec : {M : Type 1} → statement M
 chroma-block-spec =
     tie.close
     (tie.spec
-    Inv-loop
-    μ-loop
-    (λ c. omega arith)
-    (λ c. omega arith)
-    (λ c. rows-none _ _ _ _ (omega arith))
-    (λ c. omega (arith, row-in (c .before .before .before .before .args .ts) (c .before .loop .inv) (c .loop-test .taken)))
-    (λ c. omega (arith, row-in (c .before .before .before .before .args .ts) (c .before .loop .inv) (c .loop-test .taken)))
-    (λ c. omega (arith, row-in 0 (c .before .before .loop .inv) (c .before .loop-test .taken)))
-    (λ c κs. omega (arith, row-in (c .before .before .before .before .before .args .ts) (c .before .before .loop .inv) (c .before .loop-test .taken)))
-    (λ c. omega arith)
-    (λ c. omega arith)
-    (λ c. rows-more (c .before .before .before .before .before .loop .inv) (omega arith) (c .before .before .bilinear-row .ensures)
-    (λ x h. ap (chromaSample _ _) (window-at _ _ _ _ _ _ _ _ (omega arith))))
-    (λ c. omega arith)
-    (λ c. rows-done (c .before .loop .inv) (omega arith)))
+    (λ c. search needs)
+    (λ c. search needs)
+    (λ c κs. search needs)
+    (λ c κs.
+    let b = c .before .before in
+    let s = b .before .before .before .pre in
+    let t = both _ _ (c .before .if1 .taken) in
+    (s .0, s .1, s .2, sym (b .is-narrow .ensures) ∙ t .0, eqb-true _ _ (t .1), s .4))
+    (λ c. search needs)
+    (λ c. search needs)
+    (λ c κs. search needs)
+    (λ c. search needs)
+    (λ c. search needs))

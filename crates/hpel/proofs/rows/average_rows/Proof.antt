@@ -30,6 +30,6 @@ average-rows-spec =
     (λ c κs. omega (arith, row-in (c .before .before .before .before .before .before .args .ts) (c .before .before .loop .inv) (c .before .loop-test .taken)))
     (λ c. omega arith)
     (λ c. omega arith)
-    (λ c. rows-more (c .before .before .before .before .before .loop .inv) (omega arith) (c .before .before .avg-lanes .ensures) (λ x h. refl))
+    (λ c. rows-more (c .before .before .before .before .before .loop .inv) (omega arith) (c .before .before .average-row .ensures) (λ x h. refl))
     (λ c. omega arith)
     (λ c. rows-done (c .before .loop .inv) (omega arith)))

@@ -1,9 +1,6 @@
--- `hpel::rows::copy_block` meets its contract: each width that was tested stands for its literal. Assumes nothing.
-use mathlib.Core.Path.{ap}
-use Prim.Native.Nat.{ℕ, _*_}
-use native.Mathlib.Omega.{arith}
+-- `hpel::rows::copy_block` meets its contract: the widths that are copied by moves, and the others. Assumes nothing.
+use mathlib.Core.Path.{sym, _∙_}
 use borrow.Author.Needs.{needs}
-use Rattle.hpel.proofs.Laws.{as-wide}
 use Rattle.hpel.proofs.rows.copy_block.Statement.{statement}
 use Rattle.hpel.proofs.rows.copy_block.Tie as tie
 
@@ -11,15 +8,13 @@ pub copy-block-spec : {M : Type 1} → statement M
 copy-block-spec =
     tie.close
     (tie.spec
-    (λ c κs. omega (arith, ap (λ (w : ℕ). w * c .before .before .before .before .args .bh) (c .before .if1 .taken)))
+    (λ c κs. search needs)
+    (λ c κs.
+    let k = c .before .before in
+    let s = k .before .before .before .pre in
+    (sym (k .is-copied .ensures) ∙ c .before .if1 .taken, s .0, s .3))
     (λ c. search needs)
-    (λ c. as-wide _ _ _ (c .before .before .before .before .if1 .taken) (c .before .before .copy-rows .ensures))
-    (λ c κs. omega (arith, ap (λ (w : ℕ). w * c .before .before .before .before .before .args .bh) (c .before .if2 .taken)))
     (λ c. search needs)
-    (λ c. as-wide _ _ _ (c .before .before .before .before .if2 .taken) (c .before .before .copy-rows2 .ensures))
-    (λ c κs. omega (arith, ap (λ (w : ℕ). w * c .before .before .before .before .before .before .args .bh) (c .before .if3 .taken)))
-    (λ c. search needs)
-    (λ c. as-wide _ _ _ (c .before .before .before .before .if3 .taken) (c .before .before .copy-rows3 .ensures))
     (λ c κs. search needs)
     (λ c. search needs)
     (λ c. search needs))
