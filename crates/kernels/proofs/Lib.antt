@@ -1,4 +1,3 @@
 -- Laws that proofs of this crate cite.
-mod Pairs
 mod Phases
 mod Sums

@@ -1,5 +1,4 @@
-// Luma blocks over rows of any stride: full samples, half samples, the centre, and the sixteen phases of them.
+// Luma blocks over rows of any stride: full samples, the centre, and the sixteen phases of them and of half samples.
 pub mod centre;
 pub mod full;
-pub mod halves;
 pub mod predict;

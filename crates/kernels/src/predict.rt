@@ -7,7 +7,6 @@ ghost use Rattle.samples.specs.Tap.{mean};
 ghost use Rattle.samples.specs.Phase.{anchor, lumaSample};
 ghost use Rattle.samples.specs.Kernel.{windowAt};
 use crate::centre;
-use crate::halves;
 use samples::phases;
 use samples::phases::Anchor;
 
