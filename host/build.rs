@@ -52,7 +52,7 @@ fn tell(text: &str) {
 
 /// Proves the Rattle crate `inter` and writes its archive.
 fn make(root: &Path) {
-    tell("Proving the library and making its archive (`rt staticlib inter`): about four minutes from nothing, less after a change.");
+    tell("Proving the library and making its archive (`rt staticlib inter`): about six minutes from nothing, less after a change.");
     let begun = Instant::now();
     let run = match Command::new("rt").args(["staticlib", "inter"]).current_dir(root).output() {
         Ok(run) => run,

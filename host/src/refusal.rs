@@ -10,7 +10,7 @@ use std::fmt;
 /// let refusal = Refusal::from_number(2).unwrap();
 /// assert_eq!(refusal, Refusal::Source);
 /// assert_eq!(refusal.name(), "source");
-/// assert_eq!(refusal.to_string(), "a source plane or row is shorter than needed");
+/// assert_eq!(refusal.to_string(), "refusal 2, source: a source plane or row is shorter than needed");
 /// assert_eq!(Refusal::from_number(0), None);
 /// ```
 #[derive(Clone, Copy, Debug, PartialEq, Eq, PartialOrd, Ord, Hash)]
@@ -79,7 +79,8 @@ impl Refusal {
 
 impl fmt::Display for Refusal {
     fn fmt(&self, f: &mut fmt::Formatter<'_>) -> fmt::Result {
-        f.write_str(self.words().1)
+        let (name, meaning) = self.words();
+        write!(f, "refusal {}, {name}: {meaning}", self.number())
     }
 }
 
