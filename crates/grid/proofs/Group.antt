@@ -86,14 +86,14 @@ group-in {w = w} {h = h} {r = r} m s inv b p =
     let e : r + (m - 1) ≤ h - 1 = omega arith in
     (omega (arith, mul-le-mul-right s e), omega (arith, mul-le-mul-right w b, inv .room, inv .len))
 
--- a turn that writes m rows
-pub rows-group : {d₀ d e : List ℕ} {w h r m : ℕ} {f g : ℕ → ℕ → ℕ} → Rows d₀ w h f r d → r + m ≤ h → e ≡ put d (r * w) (m * w) (byRows w g)
-    → ((c j : ℕ) → c < w → j < m → g c j ≡ f c (r + j)) → Rows d₀ w h f (r + m) e
-rows-group {d₀} {d} {e} {w} {h} {r} {m} {f} {g} inv b p q =
+-- a turn that writes m rows, and leads to row s
+pub rows-group : {d₀ d e : List ℕ} {w h r m s : ℕ} {f g : ℕ → ℕ → ℕ} → Rows d₀ w h f r d → r + m ≤ h → e ≡ put d (r * w) (m * w) (byRows w g)
+    → ((c j : ℕ) → c < w → j < m → g c j ≡ f c (r + j)) → r + m ≡ s → Rows d₀ w h f s e
+rows-group {d₀} {d} {e} {w} {h} {r} {m} {s} {f} {g} inv b p q t =
     let fits : r * w + m * w ≤ length d = omega (arith, mul-le-mul-right w b, inv .room, inv .len) in
-    let more : r * w + m * w ≡ (r + m) * w = omega arith in
+    let more : r * w + m * w ≡ s * w = omega (arith, ap (λ (k : ℕ). k * w) t) in
     record {
-      upto = b;
+      upto = omega arith;
       room = inv .room;
       len = ap length p ∙ put-length d (r * w) (m * w) (byRows w g) fits ∙ inv .len;
       is = p ∙ ap₂ (λ (l : List ℕ) (k : ℕ). put l k (m * w) (byRows w g)) (inv .is) (sym (zero-add (r * w)))

@@ -1,5 +1,5 @@
 -- Half samples, alone or averaged, share these: two rows of eight lanes at a time, and two names of one place. Assumes nothing.
-use mathlib.Core.Path.{_≡_, refl, sym, ap, ap₂, _∙_, subst}
+use mathlib.Core.Path.{_≡_, refl, sym, ap, ap₂, _∙_}
 use mathlib.Core.Bool.{Bool, true, _&&_}
 use mathlib.Core.List.{List}
 use Prim.Native.Nat.{ℕ, _+_, _*_, _-_, _%_, _≤_, _<_}
@@ -7,10 +7,9 @@ use native.Mathlib.Omega.{arith}
 use lib.Dec.{eqb}
 use lib.ListN.{length, getD, set, length-set}
 use borrow.Author.Tests.{eqb-true}
-use Rattle.grid.specs.Block.{byRows}
-use Rattle.grid.specs.Run.{put, from, narrow}
+use Rattle.grid.specs.Run.{from, narrow}
 use Rattle.grid.proofs.Loop.{Rows}
-use Rattle.grid.proofs.Group.{Lanes, lanes-none, lanes-set, lanes-next, lanes-done, group-in, rows-group}
+use Rattle.grid.proofs.Group.{Lanes, lanes-none, lanes-set, lanes-next, lanes-done, group-in}
 use Rattle.samples.specs.Tap.{half, mean}
 use Rattle.samples.proofs.Reach.{both}
 
@@ -36,11 +35,6 @@ pair-done inv h = lanes-done (inv .lanes) h
 -- two rows from row r on: where the second one starts in rows that are s apart, and their room in the buffer
 pub pair-in : {d₀ d : List ℕ} {w h r : ℕ} {f : ℕ → ℕ → ℕ} (s : ℕ) → Rows d₀ w h f r d → r + 2 ≤ h → (r * s + s ≤ (h - 1) * s) × (r * w + 2 * w ≤ length d)
 pair-in s inv b = omega (arith, group-in 2 s inv b (omega arith))
-
--- a turn of a loop over m rows at a time, which leads to row s
-pub rows-turn : {d₀ d e : List ℕ} {w h r m s : ℕ} {f g : ℕ → ℕ → ℕ} → Rows d₀ w h f r d → r + m ≤ h → e ≡ put d (r * w) (m * w) (byRows w g)
-    → ((c j : ℕ) → c < w → j < m → g c j ≡ f c (r + j)) → r + m ≡ s → Rows d₀ w h f s e
-rows-turn {d₀} {d} {e} {w} {h} {r} {m} {s} {f} {g} inv b p q t = subst (λ (k : ℕ). Rows d₀ w h f k e) t (rows-group inv b p q)
 
 -- the test of blocks that are done by pairs of rows
 pub by-pairs : {t : Bool} (w h : ℕ) → t ≡ narrow w → t && eqb (h % 2) 0 ≡ true → (narrow w ≡ true) × (h % 2 ≡ 0)

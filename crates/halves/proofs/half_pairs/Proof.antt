@@ -3,8 +3,9 @@ use Prim.Native.Nat.{_+_, _*_, _-_, _/_}
 use native.Mathlib.Omega.{arith}
 use Rattle.grid.specs.Run.{from}
 use Rattle.grid.proofs.Loop.{Rows, rows-none, rows-done}
+use Rattle.grid.proofs.Group.{rows-group}
 use Rattle.samples.specs.Tap.{half}
-use Rattle.halves.proofs.Pairs.{pair-in, rows-turn, half-at}
+use Rattle.halves.proofs.Pairs.{pair-in, half-at}
 use Rattle.halves.proofs.half_pairs.Statement.{statement}
 use Rattle.halves.proofs.half_pairs.Tie as tie
 
@@ -31,7 +32,7 @@ half-pairs-spec =
     (omega (arith, pair-in (k .args .ts) (l .loop .inv) (omega arith)), k .pre .1, omega (arith, pair-in 0 (l .loop .inv) (omega arith))))
     (λ c. omega arith)
     (λ c. omega arith)
-    (λ c. rows-turn (c .before .before .before .before .before .loop .inv) (omega arith) (c .before .before .half-pair .ensures)
+    (λ c. rows-group (c .before .before .before .before .before .loop .inv) (omega arith) (c .before .before .half-pair .ensures)
     (λ x j a b. half-at _ _ (omega arith)) (omega arith))
     (λ c. omega arith)
     (λ c. rows-done (c .before .loop .inv) (omega arith)))

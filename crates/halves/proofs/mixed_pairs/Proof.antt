@@ -5,8 +5,9 @@ use lib.ListN.{getD}
 use denote.Ref.{now}
 use Rattle.grid.specs.Run.{from}
 use Rattle.grid.proofs.Loop.{Rows, rows-none, rows-done}
+use Rattle.grid.proofs.Group.{rows-group}
 use Rattle.samples.specs.Tap.{half, mean}
-use Rattle.halves.proofs.Pairs.{pair-in, rows-turn, mixed-at}
+use Rattle.halves.proofs.Pairs.{pair-in, mixed-at}
 use Rattle.halves.proofs.mixed_pairs.Statement.{statement}
 use Rattle.halves.proofs.mixed_pairs.Tie as tie
 
@@ -19,7 +20,7 @@ abbrev μ-loop : tie.MeasureT-loop
 again : tie.Need-loop-again Inv-loop μ-loop
 again c =
     let l = c .before .before .before .before .before in
-    rows-turn (l .loop .inv) (omega arith) (c .before .before .mixed-pair .ensures)
+    rows-group (l .loop .inv) (omega arith) (c .before .before .mixed-pair .ensures)
     (λ x j _ _. mixed-at _ _ (now (l .before .before .before .before .args .a)) (omega arith) (omega arith)) (omega arith)
 
 pub mixed-pairs-spec : {M : Type 1} → statement M

@@ -1,6 +1,5 @@
 -- `blend::bilinear::bilinear_fours` meets its contract. The loop's invariant: the first 4 * k rows are written. Assumes nothing.
-use mathlib.Core.Path.{_≡_, ap, subst}
-use mathlib.Core.List.{List}
+use mathlib.Core.Path.{ap}
 use Prim.Native.Nat.{ℕ, _+_, _*_, _-_, _≤_}
 use native.Mathlib.Nat.{mul-le-mul-right}
 use native.Mathlib.Omega.{arith}
@@ -22,10 +21,6 @@ abbrev μ-loop : tie.MeasureT-loop
 inside : (c : tie.In-loop Inv-loop μ-loop) (s : ℕ) → let bh = c .before .before .before .before .args .bh in (4 * c .before .loop .k + 4) * s ≤ bh * s
 inside c s = let e : 4 * c .before .loop .k + 4 ≤ c .before .before .before .before .args .bh = omega arith in mul-le-mul-right s e
 
--- the number of rows, by another name
-counted : {d₀ d : List ℕ} {w h r s : ℕ} {f : ℕ → ℕ → ℕ} → Rows d₀ w h f r d → r ≡ s → Rows d₀ w h f s d
-counted {d₀} {d} {w} {h} {f = f} i e = subst (λ (k : ℕ). Rows d₀ w h f k d) e i
-
 pub bilinear-fours-spec : {M : Type 1} → statement M
 bilinear-fours-spec =
     tie.close
@@ -43,9 +38,7 @@ bilinear-fours-spec =
     (λ c. omega arith)
     (λ c. omega arith)
     (λ c.
-    counted
-    (rows-group (c .before .before .before .before .before .loop .inv) (omega arith) (c .before .before .bilinear-four .ensures)
-    (λ x j h l. ap (chromaSample _ _) (window-at _ _ _ _ _ _ _ _ (omega arith))))
-    (omega arith))
+    rows-group (c .before .before .before .before .before .loop .inv) (omega arith) (c .before .before .bilinear-four .ensures)
+    (λ x j h l. ap (chromaSample _ _) (window-at _ _ _ _ _ _ _ _ (omega arith))) (omega arith))
     (λ c. omega arith)
     (λ c. rows-done (c .before .loop .inv) (omega arith)))

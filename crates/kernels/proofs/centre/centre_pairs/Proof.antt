@@ -1,7 +1,7 @@
 -- `kernels::centre::centre_pairs` meets its contract. The loop's invariant: the first 2 * k rows are written. Assumes nothing.
 use mathlib.Core.Path.{ap}
 use Prim.Native.Nat.{ℕ, _+_, _*_, _-_, _/_, _≤_, _<_}
-use native.Mathlib.Nat.{mul-add, mul-le-mul-right}
+use native.Mathlib.Nat.{mul-le-mul-right}
 use native.Mathlib.Omega.{arith}
 use Rattle.grid.proofs.Loop.{Rows, rows-none, rows-done}
 use Rattle.grid.proofs.Group.{rows-group}
@@ -37,7 +37,7 @@ centre-pairs-spec =
     (omega (arith, ends (s .args .ts) _ _ (c .before .loop-test .taken)), s .pre .1, omega (arith, ends (s .args .bw) _ _ (c .before .loop-test .taken))))
     (λ c. omega arith)
     (λ c. omega arith)
-    (λ c. rw mul-add (rows-group {m = 2} (c .before .before .before .before .before .loop .inv) (omega arith) (c .before .before .centre-pair .ensures)
-    (λ x j h b. ap (centre 255) (window-at _ _ _ _ _ _ _ _ (omega arith)))))
+    (λ c. rows-group (c .before .before .before .before .before .loop .inv) (omega arith) (c .before .before .centre-pair .ensures)
+    (λ x j h b. ap (centre 255) (window-at _ _ _ _ _ _ _ _ (omega arith))) (omega arith))
     (λ c. omega arith)
     (λ c. rows-done (c .before .loop .inv) (omega arith)))
