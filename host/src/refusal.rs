@@ -10,6 +10,7 @@ use std::fmt;
 /// let refusal = Refusal::from_number(2).unwrap();
 /// assert_eq!(refusal, Refusal::Source);
 /// assert_eq!(refusal.name(), "source");
+/// assert_eq!(refusal.meaning(), "a source plane or row is shorter than needed");
 /// assert_eq!(refusal.to_string(), "refusal 2, source: a source plane or row is shorter than needed");
 /// assert_eq!(Refusal::from_number(0), None);
 /// ```
@@ -54,6 +55,11 @@ impl Refusal {
         self.words().0
     }
 
+    /// What was refused, in a sentence.
+    pub fn meaning(self) -> &'static str {
+        self.words().1
+    }
+
     fn words(self) -> (&'static str, &'static str) {
         match self {
             Refusal::Side => ("side", "a side, pad or stride is outside its range"),
@@ -79,8 +85,7 @@ impl Refusal {
 
 impl fmt::Display for Refusal {
     fn fmt(&self, f: &mut fmt::Formatter<'_>) -> fmt::Result {
-        let (name, meaning) = self.words();
-        write!(f, "refusal {}, {name}: {meaning}", self.number())
+        write!(f, "refusal {}, {}: {}", self.number(), self.name(), self.meaning())
     }
 }
 

@@ -364,7 +364,7 @@ fn the_refusals_are_those_of_the_crate() {
     });
     let known = Refusal::ALL.map(|refusal| {
         let name = refusal.name().to_uppercase().replace(' ', "_");
-        (format!("INTER_REFUSED_{name}"), refusal.number(), refusal.to_string())
+        (format!("INTER_REFUSED_{name}"), refusal.number(), refusal.meaning().to_string())
     });
     let done = ("INTER_DONE".to_string(), 0, "done".to_string());
     assert_eq!(numbered.collect::<Vec<_>>(), [&[done], &known[..]].concat());
