@@ -34,11 +34,15 @@ pub fn full_rows(t: &[u8], p: usize, ts: usize, bw: usize, bh: usize, dst: &mut 
     }
 }
 
-// The widths that `full_block` copies.
+// The widths that `full_block` copies: 16, 8, 4 and 2, as bits of a word.
+const COPIED: usize = 65812;
+
+// Four comparisons would become a search for a power of two, which is longer.
 pub fn is_copied(bw: usize) -> bool
+    requires { ⌜ bw ≤ 16 ⌝ }
     ensures { λ r. ⌜ r ≡ copied bw ⌝ }
 {
-    ((bw == 16) | (bw == 8)) | ((bw == 4) | (bw == 2))
+    (COPIED >> bw) % 2 == 1
 }
 
 // A literal width makes each row one move, and nothing else here: an unknown width would have every call save its registers.

@@ -3,7 +3,6 @@ use borrow.Author.Needs.{needs}
 use mathlib.Core.Path.{refl, ap₂, _∙_}
 use Prim.Native.Nat.{_+_, _*_, _-_, _≤_}
 use native.Mathlib.Omega.{arith}
-use denote.Ref.{now}
 use Rattle.grid.proofs.Fill.{drawn-ext}
 use Rattle.samples.specs.Tap.{mean}
 use Rattle.kernels.proofs.Phases.{local-at, local-fits}

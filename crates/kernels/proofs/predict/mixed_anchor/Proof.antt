@@ -1,7 +1,6 @@
 -- `kernels::predict::mixed_anchor` meets its contract: the half samples where their taps are, averaged. Assumes nothing.
 use borrow.Author.Needs.{needs}
 use mathlib.Core.Path.{ap, _∙_}
-use Prim.Native.Nat.{ℕ}
 use native.Mathlib.Omega.{arith}
 use denote.Ref.{now}
 use Rattle.grid.proofs.Fill.{drawn-ext}
