@@ -1,7 +1,7 @@
 // Document 01's limits, its refusal numbers, and the tests in the order of the numbers.
 ghost use mathlib.Core.Path.{_≡_};
 ghost use Prim.Native.Nat.{_*_, _≤_};
-ghost use Rattle.place.specs.Refusal.{badSides, badBlock, badPosition, planeRefusal, paddedRefusal, blockRefusal, plainBlockRefusal, paddedBlockRefusal};
+ghost use Rattle.place.specs.Refusal.{badSides, badBlock, badPosition, paddedRefusal, blockRefusal, plainBlockRefusal, paddedBlockRefusal};
 
 pub const DONE: u32 = 0;
 
@@ -46,19 +46,6 @@ pub fn bad_position(x0: usize, y0: usize) -> bool
     (MAX_POSITION < x0) | (MAX_POSITION < y0)
 }
 
-// A plain plane of w by h samples, shown as len bytes.
-pub fn check_plane(len: usize, w: usize, h: usize) -> u32
-    ensures { λ r. ⌜ r ≡ planeRefusal len w h ⌝ }
-{
-    if bad_sides(w, h) {
-        return BAD_SIDE;
-    }
-    if len < w * h {
-        return SHORT_SOURCE;
-    }
-    DONE
-}
-
 // A plane with margins: sums and products are made only once their parts are within range, so nothing overflows.
 pub fn check_padded(len: usize, w: usize, h: usize, pad: usize, stride: usize) -> u32
     ensures { λ r. ⌜ r ≡ paddedRefusal len w h pad stride ⌝ }
@@ -95,6 +82,7 @@ pub fn check_block(most: usize, x0: usize, y0: usize, bw: usize, bh: usize, out:
     DONE
 }
 
+// Such a block, predicted from a plain plane of w by h samples, shown as len bytes.
 pub fn check_plain_block(
     most: usize,
     len: usize,
@@ -109,13 +97,16 @@ pub fn check_plain_block(
     requires { ⌜ most ≤ 16 ⌝ }
     ensures { λ r. ⌜ r ≡ plainBlockRefusal most len w h x0 y0 bw bh out ⌝ }
 {
-    let source = check_plane(len, w, h);
-    if source != DONE {
-        return source;
+    if bad_sides(w, h) {
+        return BAD_SIDE;
+    }
+    if len < w * h {
+        return SHORT_SOURCE;
     }
     check_block(most, x0, y0, bw, bh, out)
 }
 
+// The same from a plane with margins.
 pub fn check_padded_block(
     most: usize,
     len: usize,
