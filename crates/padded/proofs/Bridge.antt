@@ -58,7 +58,16 @@ module _ (before behind base x y bw bh w h pad : ℕ) where
       → near (base + before) (n + 2 * pad) (z + pad + c + i) ≡ z + c + i + pad - (base + before)
   near-in n z pad b c i p q k l = omega arith
 
-  module _ (stride : ℕ) {a : Area} (is : a ≡ areaOf passed stride pad w h x y) where
+  module _ (stride : ℕ) {d : Bool} {a : Area} (tested : d ≡ passed) (made : a ≡ areaOf d stride pad w h x y) where
+    is : a ≡ areaOf passed stride pad w h x y
+    is = made ∙ ap (λ (t : Bool). areaOf t stride pad w h x y) tested
+
+    -- where the test held, the block lies inside the whole buffer
+    pub block-in : d ≡ true → (base ≤ a .x) × (a .x - base + bw ≤ a .w) × (base ≤ a .y) × (a .y - base + bh ≤ a .h)
+    block-in e =
+        subst (λ (k : Area). (base ≤ k .x) × (k .x - base + bw ≤ k .w) × (base ≤ k .y) × (k .y - base + bh ≤ k .h)) (sym (made ∙ ap (λ (t : Bool). areaOf t stride pad w h x y) e))
+        (omega (arith, in-both before behind base x y bw bh w h pad (sym tested ∙ e)))
+
     pub area-in : (1 ≤ w) × (w ≤ 8192) × (1 ≤ h) × (h ≤ 8192) × (pad ≤ 128) × (w + 2 * pad ≤ stride) × (base < 2 ^ 30) × (x < 2 ^ 31) × (y < 2 ^ 31) → Inside h pad stride a
     area-in s = subst (Inside h pad stride) (sym is) (by passed refl)
       where
@@ -111,27 +120,27 @@ luma-place x0 mv x f e c = luma-up x0 mv c f ∙ ap (λ (k : ℕ). diff (k + c) 
 chroma-place : (x0 : ℕ) (mv : ℤ) (x : ℕ) → mag mv < 2 ^ 31 → x ≡ x0 + up (2 ^ 31) mv / 8 → (c : ℕ) → chromaPlace x0 mv c ≡ diff (x + c) (2 ^ 28)
 chroma-place x0 mv x f e c = chroma-up x0 mv c f ∙ ap (λ (k : ℕ). diff (k + c) (2 ^ 28)) (sym e)
 
-module _ (out buf : List ℕ) (stride pad w h x0 y0 bw bh : ℕ) (mvx mvy : ℤ) (p : mag mvx < 2 ^ 31) (q : mag mvy < 2 ^ 31) {x y fx fy : ℕ} {a : Area} where
+module _ (out buf : List ℕ) (stride pad w h x0 y0 bw bh : ℕ) (mvx mvy : ℤ) (p : mag mvx < 2 ^ 31) (q : mag mvy < 2 ^ 31) {x y fx fy : ℕ} {d : Bool} {a : Area} where
   pub luma-drawn : x ≡ x0 + up (2 ^ 31) mvx / 4 → y ≡ y0 + up (2 ^ 31) mvy / 4 → fx ≡ phase mvx 4 → fy ≡ phase mvy 4
-      → a ≡ areaOf (passes 2 3 (2 ^ 29) x y bw bh w h pad) stride pad w h x y
+      → d ≡ passes 2 3 (2 ^ 29) x y bw bh w h pad → a ≡ areaOf d stride pad w h x y
       → drawn out bw bh (lumaNear buf (a .p) stride (a .w) (a .h) (a .x) (a .y) fx fy) ≡ drawn out bw bh (paddedLuma buf stride pad w h x0 y0 bw bh mvx mvy)
   unfolding lumaNear paddedLuma lumaDirect
-  luma-drawn ex ey efx efy e =
+  luma-drawn ex ey efx efy t e =
       let u = luma-place x0 mvx x p ex in
       let v = luma-place y0 mvy y q ey in
       drawn-ext out bw bh _ _ (λ c r m n.
       rw (efx, efy) (luma-six 255 _ _ (λ i j k l.
-      read-at 2 3 (2 ^ 29) x y bw bh w h pad stride e buf c r i j m n k l (passes-is 2 3 (2 ^ 29) x y bw bh w h pad (u 0) (v 0))
+      read-at 2 3 (2 ^ 29) x y bw bh w h pad stride t e buf c r i j m n k l (passes-is 2 3 (2 ^ 29) x y bw bh w h pad (u 0) (v 0))
       (around (x + c) (2 ^ 29) (u c) i) (around (y + r) (2 ^ 29) (v r) j)) (phase mvx 4) (phase mvy 4)))
 
   pub chroma-drawn : x ≡ x0 + up (2 ^ 31) mvx / 8 → y ≡ y0 + up (2 ^ 31) mvy / 8 → fx ≡ phase mvx 8 → fy ≡ phase mvy 8
-      → a ≡ areaOf (passes 0 1 (2 ^ 28) x y bw bh w h pad) stride pad w h x y
+      → d ≡ passes 0 1 (2 ^ 28) x y bw bh w h pad → a ≡ areaOf d stride pad w h x y
       → drawn out bw bh (chromaNear buf (a .p) stride (a .w) (a .h) (a .x) (a .y) fx fy) ≡ drawn out bw bh (paddedChroma buf stride pad w h x0 y0 bw bh mvx mvy)
   unfolding chromaNear paddedChroma chromaDirect
-  chroma-drawn ex ey efx efy e =
+  chroma-drawn ex ey efx efy t e =
       let u = chroma-place x0 mvx x p ex in
       let v = chroma-place y0 mvy y q ey in
       drawn-ext out bw bh _ _ (λ c r m n.
       rw (efx, efy) (chroma-four (phase mvx 8) (phase mvy 8) _ _ (λ i j k l.
-      read-at 0 1 (2 ^ 28) x y bw bh w h pad stride e buf c r i j m n k l (passes-is 0 1 (2 ^ 28) x y bw bh w h pad (u 0) (v 0))
+      read-at 0 1 (2 ^ 28) x y bw bh w h pad stride t e buf c r i j m n k l (passes-is 0 1 (2 ^ 28) x y bw bh w h pad (u 0) (v 0))
       (onward (x + c) (2 ^ 28) (u c) i) (onward (y + r) (2 ^ 28) (v r) j))))

@@ -33,6 +33,25 @@ fn in_reach(
     (base + before <= at + pad) & (at + b + behind <= n + pad + base)
 }
 
+// The one test for both axes.
+fn reaches(
+    g: Geometry,
+    base: usize,
+    before: usize,
+    behind: usize,
+    x: usize,
+    y: usize,
+    bw: usize,
+    bh: usize,
+) -> bool
+    requires { ⌜ (g .pw ≤ 8192) × (g .ph ≤ 8192) × (g .pad ≤ 128) × (base < 2 ^ 30) × (before ≤ 2) × (behind ≤ 3) × (x < 2 ^ 31) × (y < 2 ^ 31) × (bw ≤ 16) × (bh ≤ 16) ⌝ }
+    ensures { λ r. ⌜ r ≡ passes before behind base x y bw bh (g .pw) (g .ph) (g .pad) ⌝ }
+{
+    let across = in_reach(x, base, before, behind, bw, g.pw, g.pad);
+    let down = in_reach(y, base, before, behind, bh, g.ph, g.pad);
+    across & down
+}
+
 // What is read of a plane with margins: where the area starts, its sides, and the block's place in it.
 pub struct Area {
     pub p: usize,
@@ -42,27 +61,16 @@ pub struct Area {
     pub y: usize,
 }
 
-// The whole buffer where the block's window lies inside picture plus margin, else the picture: one test for both axes.
-fn area_of(
-    g: Geometry,
-    base: usize,
-    before: usize,
-    behind: usize,
-    x: usize,
-    y: usize,
-    bw: usize,
-    bh: usize,
-) -> Area
-    requires { ⌜ (g .pw ≤ 8192) × (g .ph ≤ 8192) × (g .pad ≤ 128) × (g .stride ≤ 16384) × (base < 2 ^ 30) × (before ≤ 2) × (behind ≤ 3) × (x < 2 ^ 31) × (y < 2 ^ 31) × (bw ≤ 16) × (bh ≤ 16) ⌝ }
-    ensures { λ r. ⌜ r ≡ areaOf (passes before behind base x y bw bh (g .pw) (g .ph) (g .pad)) (g .stride) (g .pad) (g .pw) (g .ph) x y ⌝ }
+// The whole buffer where the block's window lies inside picture plus margin, else the picture.
+fn area_of(whole: bool, g: Geometry, x: usize, y: usize) -> Area
+    requires { ⌜ (g .pw ≤ 8192) × (g .ph ≤ 8192) × (g .pad ≤ 128) × (g .stride ≤ 16384) × (x < 2 ^ 31) × (y < 2 ^ 31) ⌝ }
+    ensures { λ r. ⌜ r ≡ areaOf whole (g .stride) (g .pad) (g .pw) (g .ph) x y ⌝ }
 {
     let stride = g.stride;
     let pad = g.pad;
     let w = g.pw;
     let h = g.ph;
-    let across = in_reach(x, base, before, behind, bw, w, pad);
-    let down = in_reach(y, base, before, behind, bh, h, pad);
-    if across & down {
+    if whole {
         return Area {
             p: 0,
             w: w + 2 * pad,
@@ -99,7 +107,8 @@ fn luma_block(
     let y = coords::luma_at(y0, mvy);
     let fx = coords::luma_phase(mvx);
     let fy = coords::luma_phase(mvy);
-    let at = area_of(g, coords::LUMA_BASE, 2, 3, x, y, bw, bh);
+    let whole = reaches(g, coords::LUMA_BASE, 2, 3, x, y, bw, bh);
+    let at = area_of(whole, g, x, y);
     if fx + fy == 0 {
         route::predict_full(
             padded,
@@ -152,7 +161,8 @@ fn luma_block_with(
     let y = coords::luma_at(y0, mvy);
     let fx = coords::luma_phase(mvx);
     let fy = coords::luma_phase(mvy);
-    let at = area_of(g, coords::LUMA_BASE, 2, 3, x, y, bw, bh);
+    let whole = reaches(g, coords::LUMA_BASE, 2, 3, x, y, bw, bh);
+    let at = area_of(whole, g, x, y);
     if fx + fy == 0 {
         route::predict_full(
             padded,
@@ -205,7 +215,8 @@ fn chroma_block(
     let y = coords::chroma_at(y0, mvy);
     let fx = coords::chroma_phase(mvx);
     let fy = coords::chroma_phase(mvy);
-    let at = area_of(g, coords::CHROMA_BASE, 0, 1, x, y, bw, bh);
+    let whole = reaches(g, coords::CHROMA_BASE, 0, 1, x, y, bw, bh);
+    let at = area_of(whole, g, x, y);
     if fx + fy == 0 {
         route::predict_full(
             padded,
@@ -398,10 +409,13 @@ fn chroma_pair(
     let y = coords::chroma_at(y0, mvy);
     let fx = coords::chroma_phase(mvx);
     let fy = coords::chroma_phase(mvy);
-    let area = area_of(g, coords::CHROMA_BASE, 0, 1, x, y, bw, bh);
+    let inside = reaches(g, coords::CHROMA_BASE, 0, 1, x, y, bw, bh);
+    let area = area_of(inside, g, x, y);
     let len = shorter(pu.len(), pv.len());
     if fx + fy == 0 {
-        let s = route::locate_full(
+        // The window lies inside, so the block does.
+        let s = route::locate_known(
+            inside,
             len,
             area.p,
             g.stride,

@@ -98,13 +98,39 @@ pub fn locate_full(
     bw: usize,
     bh: usize,
 ) -> Spot
-    requires { ⌜ (0 < w) × (0 < h) × (p + (h - 1) * stride + w ≤ len) × (0 < bh) × (x + bw < 2 ^ 32) × (y + bh < 2 ^ 32) ⌝ }
+    requires { ⌜ (0 < w) × (0 < h) × (p + (h - 1) * stride + w ≤ len) × (bw ≤ 16) × (0 < bh) × (x + bw < 2 ^ 32) × (y + bh < 2 ^ 32) ⌝ }
     ensures { λ r. ⌜ (r .inside ≡ true → (copied bw ≡ true) × Lies len p stride w h x y base bw bh bw (r .at)) ⌝ }
 {
     if full::is_copied(bw) {
         return spot_in(len, p, stride, w, h, x, y, base, bw, bh);
     }
     NOWHERE
+}
+
+// The same where the caller may know already that the block lies inside.
+pub fn locate_known(
+    inside: bool,
+    len: usize,
+    p: usize,
+    stride: usize,
+    w: usize,
+    h: usize,
+    x: usize,
+    y: usize,
+    base: usize,
+    bw: usize,
+    bh: usize,
+) -> Spot
+    requires { ⌜ (inside ≡ true → (base ≤ x) × (x - base + bw ≤ w) × (base ≤ y) × (y - base + bh ≤ h)) × (0 < w) × (0 < h) × (p + (h - 1) * stride + w ≤ len) × (bw ≤ 16) × (0 < bh) × (x + bw < 2 ^ 32) × (y + bh < 2 ^ 32) ⌝ }
+    ensures { λ r. ⌜ (r .inside ≡ true → (copied bw ≡ true) × Lies len p stride w h x y base bw bh bw (r .at)) ⌝ }
+{
+    if inside & full::is_copied(bw) {
+        return Spot {
+            inside: true,
+            at: p + (y - base) * stride + (x - base),
+        };
+    }
+    locate_full(len, p, stride, w, h, x, y, base, bw, bh)
 }
 
 // The bw by bh full samples from the place (x, y) on, which were located at s.
