@@ -4,12 +4,12 @@ use mathlib.Core.Bool.{Bool, true, false, false≢true, cond, not, _&&_, _||_}
 use mathlib.Core.List.{List, [], _∷_, _++_}
 use mathlib.Core.Logic.{⊎-elim}
 use Prim.Native.Nat.{ℕ, zero, suc, _+_, _*_, _-_, _/_, _%_, _^_, _≤_, _<_}
-use native.Mathlib.Nat.{mul-le-mul-right}
+use native.Mathlib.Nat.{add-assoc, mul-le-mul-right}
 use native.Mathlib.Omega.{arith}
 use lib.Dec.{eqb, ltb}
 use lib.IntN.{ℤ, pos, subℕ, _+ℤ_}
 use lib.ListN.{length, take, drop, getD, length-drop}
-use lib.Seq.{take-all}
+use lib.Seq.{take-all, getD-drop}
 use lib.Signed.{mag, ltZ}
 use borrow.Author.Tests.{ltb-false, lt-ltb, le-ltb}
 use Rattle.signed.specs.Lift.{up}
@@ -262,14 +262,15 @@ module _ (f h v c w ht pad x0 y0 bw bh : ℕ) where
       pub block-ok : (out : ℕ) → 0 ≡ blockRefusal f h v c w ht pad x0 y0 bw bh mvx mvy out → Ok × (bw * bh ≤ out)
       block-ok out e = let s = block-passes out e in (ok _ (s .0), s .1)
 
-      -- an anchor's rows lie within its plane
-      rows-in : (a : Anchor) → Near a → Ok → firstAt a (wide w pad) (lumaPlace x0 mvx pad) (lumaPlace y0 mvy pad) + (bh - 1) * wide w pad + bw ≤ wide w pad * wide ht pad
-      rows-in a n k =
+      -- an anchor's rows lie within its plane, with as many samples as lie before the plane's last column
+      rows-in : (n : ℕ) → x0 + up (2 ^ 31) mvx / 4 + pad + n + 1 ≤ wide w pad + 2 ^ 29 → (a : Anchor) → Near a → Ok
+          → firstAt a (wide w pad) (lumaPlace x0 mvx pad) (lumaPlace y0 mvy pad) + (bh - 1) * wide w pad + n ≤ wide w pad * wide ht pad
+      rows-in n right a near k =
           let x = x0 + up (2 ^ 31) mvx / 4 + pad in
           let y = y0 + up (2 ^ 31) mvy / 4 + pad in
           let e : firstAt a (wide w pad) (lumaPlace x0 mvx pad) (lumaPlace y0 mvy pad) ≡ (y - 2 ^ 29 + a .dy) * wide w pad + (x - 2 ^ 29 + a .dx) =
           sym (first-up a (wide w pad) x y (k .1 .left) (k .1 .above) ∙ ap₂ (firstAt a (wide w pad)) (place-is x0 mvx pad p refl) (place-is y0 mvy pad q refl)) in
-          rw e (last-in (wide w pad) (wide ht pad) bw (bh - 1) (x - 2 ^ 29 + a .dx) (y - 2 ^ 29 + a .dy) (omega (arith, k)) (omega (arith, k)))
+          rw e (last-in (wide w pad) (wide ht pad) n (bh - 1) (x - 2 ^ 29 + a .dx) (y - 2 ^ 29 + a .dy) (omega (arith, k)) (omega (arith, k)))
 
 -- ---- lookups
 
@@ -373,16 +374,21 @@ module _ (f h v c : List ℕ) (w pad x0 y0 : ℕ) (mvx mvy : ℤ) {px py : ℤ} 
 
   -- its rows are there
   pub rows-room : (ht bw bh : ℕ) → mag mvx < 2 ^ 31 → mag mvy < 2 ^ 31 → Ok (length f) (length h) (length v) (length c) w ht pad x0 y0 bw bh mvx mvy
-      → (a : Anchor) → Near a → {t : List ℕ} {i : ℕ} → Looked a t i → i + (bh - 1) * wide w pad + bw ≤ length t
-  rows-room ht bw bh m n ok a near l =
+      → (k : ℕ) → x0 + up (2 ^ 31) mvx / 4 + pad + k + 1 ≤ wide w pad + 2 ^ 29 → (a : Anchor) → Near a → {t : List ℕ} {i : ℕ} → Looked a t i → i + (bh - 1) * wide w pad + k ≤ length t
+  rows-room ht bw bh m n ok many right a near l =
       let k = ok .0 in
       omega (
         arith,
         ap length (l .0),
         l .1 ∙ ap₂ (firstAt a (wide w pad)) ex ey,
-        rows-in (length f) (length h) (length v) (length c) w ht pad x0 y0 bw bh mvx mvy m n a near ok,
+        rows-in (length f) (length h) (length v) (length c) w ht pad x0 y0 bw bh mvx mvy m n many right a near ok,
         plane-room f h v c (wide w pad * wide ht pad) (a .kind) (k .f-room) (k .h-room) (k .v-room) (k .c-room),
       )
+
+  -- and so they are in its view
+  pub view-room : (ht bw bh : ℕ) → mag mvx < 2 ^ 31 → mag mvy < 2 ^ 31 → Ok (length f) (length h) (length v) (length c) w ht pad x0 y0 bw bh mvx mvy
+      → (k : ℕ) → x0 + up (2 ^ 31) mvx / 4 + pad + k + 1 ≤ wide w pad + 2 ^ 29 → (a : Anchor) → Near a → {s t : List ℕ} {i : ℕ} → Looked a t i → s ≡ drop i t → (bh - 1) * wide w pad + k ≤ length s
+  view-room ht bw bh m n ok many right a near {t = t} {i = i} l e = omega (arith, ap length e ∙ length-drop i t, rows-room ht bw bh m n ok many right a near l)
 
   -- what was averaged, and what was copied, is the block
   module _ (out : List ℕ) (bw bh : ℕ) (k : Phase) (e : k ≡ phaseOf (phase mvx 4) (phase mvy 4)) where
@@ -391,6 +397,15 @@ module _ (f h v c : List ℕ) (w pad x0 y0 : ℕ) (mvx mvy : ℤ) {px py : ℤ} 
     unfolding hpelSample
     averaged l m g =
         g ∙ drawn-ext out bw bh _ _ (λ x y _ _. ap₂ mean (reads (k .p) x y l) (reads (k .q) x y m) ∙ (λ t. mean (read (e t .p) x y) (read (e t .q) x y)))
+
+    -- the same of views
+    pub averaged-views : {d s t a b : List ℕ} {i j : ℕ} → Looked (k .p) s i → Looked (k .q) t j → a ≡ drop i s → b ≡ drop j t
+        → d ≡ drawn out bw bh (λ x y. mean (getD a (y * wide w pad + x) 0) (getD b (y * wide w pad + x) 0)) → d ≡ drawn out bw bh (hpelSample f h v c w pad x0 y0 mvx mvy)
+    averaged-views {s = s} {t = t} {i = i} {j = j} l m p q g = averaged l m (g ∙ drawn-ext out bw bh _ _ (λ x y _ _. ap₂ mean (viewed s i p x y) (viewed t j q x y)))
+      where
+        viewed : {a : List ℕ} (s : List ℕ) (i : ℕ) → a ≡ drop i s → (x y : ℕ) → getD a (y * wide w pad + x) 0 ≡ getD s (i + y * wide w pad + x) 0
+        viewed s i e x y =
+            ap (λ (l : List ℕ). getD l (y * wide w pad + x) 0) e ∙ getD-drop i s (y * wide w pad + x) 0 ∙ ap (λ (n : ℕ). getD s n 0) (sym (add-assoc i (y * wide w pad) x))
 
     pub copied : {d s : List ℕ} {i : ℕ} → Looked (k .p) s i → k .p ≡ k .q
         → d ≡ drawn out bw bh (λ x y. getD s (i + y * wide w pad + x) 0) → d ≡ drawn out bw bh (hpelSample f h v c w pad x0 y0 mvx mvy)

@@ -286,15 +286,17 @@ pub fn hpel_block<'a>(
     let pw = cw + 2 * pad;
     let x = coords::luma_at(x0, mvx) + pad;
     let y = coords::luma_at(y0, mvy) + pad;
-    let a = choose(f, h, v, c, p.kind as u32);
     let i = first_at(p, pw, x, y);
     if served::at_quarter(fx, fy) {
-        let b = choose(f, h, v, c, q.kind as u32);
         let j = first_at(q, pw, x, y);
-        rows::average_block(a, i, b, j, pw, bw, bh, out);
+        // Sixteen and the spare sample lie in each row.
+        let wide = x + 17 <= pw + coords::LUMA_BASE;
+        let a = tail(choose(f, h, v, c, p.kind as u32), i);
+        let b = tail(choose(f, h, v, c, q.kind as u32), j);
+        rows::average_block(wide, a, b, pw, bw, bh, out);
         return limits::DONE;
     }
     // Full and half phases name one anchor twice.
-    rows::copy_block(a, i, pw, bw, bh, out);
+    rows::copy_block(choose(f, h, v, c, p.kind as u32), i, pw, bw, bh, out);
     limits::DONE
 }

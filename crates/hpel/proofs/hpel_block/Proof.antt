@@ -1,10 +1,11 @@
 -- `hpel::hpel_block` meets its contract: a refusal keeps `out`, and an answer of 0 is what the block's rows require. Assumes nothing.
 use borrow.Author.Needs.{needs}
 use mathlib.Core.Path.{_≡_, sym, ap, ap₂, _∙_}
-use Prim.Native.Nat.{_+_, _-_, _*_, _/_, _^_, _≤_}
+use Prim.Native.Nat.{ℕ, _+_, _-_, _*_, _/_, _^_, _≤_}
 use native.Mathlib.Omega.{arith}
 use lib.IntN.{subℕ}
 use lib.ListN.{length}
+use borrow.Author.Tests.{leb-true}
 use mir.Facts.{toZ-ofZ}
 use denote.Ref.{now}
 use Rattle.signed.specs.Lift.{up}
@@ -14,7 +15,7 @@ use Rattle.samples.specs.declared.phases.Phase.{Phase}
 use Rattle.samples.specs.Phase.{phaseOf}
 use Rattle.samples.proofs.Reach.{Near, phase-near}
 use Rattle.hpel.specs.Served.{blockRefusal}
-use Rattle.hpel.proofs.Laws.{Ok, block-ok, place-is, first-asks, one-anchor, rows-room, averaged, copied}
+use Rattle.hpel.proofs.Laws.{Ok, block-ok, place-is, first-asks, one-anchor, rows-room, view-room, averaged-views, copied}
 use Rattle.hpel.proofs.hpel_block.Statement.{statement}
 use Rattle.hpel.proofs.hpel_block.Tie as tie
 
@@ -58,29 +59,30 @@ place : (k : tie.After-luma-at2) → let a = start k .args in
     (subℕ (k .before .luma-at .result + a .pad) (2 ^ 29) ≡ lumaPlace (a .x0) (a .mvx) (a .pad)) × (subℕ (k .luma-at2 .result + a .pad) (2 ^ 29) ≡ lumaPlace (a .y0) (a .mvy) (a .pad))
 place k = let s = start k in (place-is _ _ _ (s .fits .mvx .sfits) (spot k .0), place-is _ _ _ (s .fits .mvy .sfits) (spot k .1))
 
--- the rows of the first anchor and of the second are there
-abbrev place1 : tie.After-first-at → tie.After-luma-at2
-place1 f = f .before .before .before
+-- what was looked up of both anchors
+abbrev second : tie.After-tail2 → tie.After-first-at2
+second t = t .before .before .before .before .before .before
 
-abbrev place2 : tie.After-first-at2 → tie.After-luma-at2
-place2 g = place1 (g .before .before .before .before .before)
+abbrev first : tie.After-tail2 → tie.After-first-at
+first t = second t .before .before .before
 
-room1 : (f : tie.After-first-at) → let a = start (place1 f) .args in f .first-at .result + (a .bh - 1) * (a .cw + 2 * a .pad) + a .bw ≤ length (now (f .before .choose .result))
-room1 f =
-    let k = place1 f in
-    let s = start k in
-    rows-room _ _ _ _ _ _ _ _ _ _ (place k .0) (place k .1) _ _ _ (s .fits .mvx .sfits) (s .fits .mvy .sfits) (ok (served k) .0) _ (near (looks k) .0) (f .before .choose .ensures, f .first-at .ensures)
+abbrev view1 : tie.After-tail2 → tie.After-tail
+view1 t = t .before .before .before
 
-room2 : (g : tie.After-first-at2) → let a = start (place2 g) .args in g .first-at2 .result + (a .bh - 1) * (a .cw + 2 * a .pad) + a .bw ≤ length (now (g .before .choose2 .result))
-room2 g =
-    let k = place2 g in
-    let s = start k in
-    rows-room _ _ _ _ _ _ _ _ _ _ (place k .0) (place k .1) _ _ _ (s .fits .mvx .sfits) (s .fits .mvy .sfits) (ok (served k) .0) _ (near (looks k) .1) (g .before .choose2 .ensures, g .first-at2 .ensures)
+-- the rows of both views are there, with as many samples as lie before the last column
+rooms : (t : tie.After-tail2) (n : ℕ) → let a = start (first t .before) .args in let w = a .cw + 2 * a .pad in a .x0 + up (2 ^ 31) (a .mvx) / 4 + a .pad + n + 1 ≤ w + 2 ^ 29
+    → ((a .bh - 1) * w + n ≤ length (now (view1 t .tail .result))) × ((a .bh - 1) * w + n ≤ length (now (t .tail2 .result)))
+rooms t n right =
+    let k = first t .before in
+    let s = start k in (
+      view-room _ _ _ _ _ _ _ _ _ _ (place k .0) (place k .1) _ _ _ (s .fits .mvx .sfits) (s .fits .mvy .sfits) (ok (served k) .0) n right _ (near (looks k) .0) (view1 t .before .choose .ensures, first t .first-at .ensures) (view1 t .tail .ensures),
+      view-room _ _ _ _ _ _ _ _ _ _ (place k .0) (place k .1) _ _ _ (s .fits .mvx .sfits) (s .fits .mvy .sfits) (ok (served k) .0) n right _ (near (looks k) .1) (t .before .choose2 .ensures, second t .first-at2 .ensures) (t .tail2 .ensures),
+    )
 
 -- full and half phases name one anchor twice
-twice : (c : tie.Else2) → let r = looks (place1 (c .before .before)) .phase-at .result in r .p ≡ r .q
+twice : (c : tie.Else2) → let r = looks (c .before .before .before) .phase-at .result in r .p ≡ r .q
 twice c =
-    let l = looks (place1 (c .before .before)) in
+    let l = looks (c .before .before .before) in
     ap (λ (f : Phase). f .p) (l .phase-at .ensures) ∙ one-anchor _ _ (l .before .before .luma-phase .ensures .1) (l .before .luma-phase2 .ensures .1) (sym (c .before .at-quarter .ensures) ∙ c .if2 .left)
     ∙ sym (ap (λ (f : Phase). f .q) (l .phase-at .ensures))
 
@@ -99,32 +101,51 @@ hpel-block-spec =
     (λ c. let k = ok (c .before .before .before .before .before .before) .0 .0 in omega (arith, k .pad2))
     (λ c κs. let k = ok (c .before .before .before .before .before .before) .0 .0 in omega (arith, k .y2))
     (λ c. let k = ok (c .before .before .before .before .before .before .before) .0 .0 in omega (arith, k .pad2))
+    (λ c κs. first-asks _ _ _ _ _ _ _ _ _ _ _ (spot c .0) (spot c .1) (ok (served c) .0) (looks c .phase-at .result .p) (near (looks c) .0))
+    (λ c κs. search needs)
+    (λ c κs. let k = c .before .before .before in first-asks _ _ _ _ _ _ _ _ _ _ _ (spot k .0) (spot k .1) (ok (served k) .0) (looks k .phase-at .result .q) (near (looks k) .1))
+    (λ c. let k = c .before .before .before .before in omega (arith, spot k .0, ok (served k) .0 .0))
+    (λ c. let k = c .before .before .before .before in omega (arith, ok (served k) .0 .0))
     (λ c. search needs)
     (λ c κs. search needs)
-    (λ c κs. let k = c .before .before in first-asks _ _ _ _ _ _ _ _ _ _ _ (spot k .0) (spot k .1) (ok (served k) .0) (looks k .phase-at .result .p) (near (looks k) .0))
     (λ c κs. search needs)
     (λ c. search needs)
     (λ c κs. search needs)
-    (λ c κs. let k = place1 (c .before .before .before .before) in first-asks _ _ _ _ _ _ _ _ _ _ _ (spot k .0) (spot k .1) (ok (served k) .0) (looks k .phase-at .result .q) (near (looks k) .1))
-    (λ c κs. let k = ok (served (place2 (c .before))) in (k .0 .0 .bh1, room1 (c .before .before .before .before .before .before), room2 (c .before), k .0 .0 .bw2, k .1))
+    (λ c κs. search needs)
+    (λ c κs.
+    let t = c .before in
+    let k = first t .before in
+    let o = ok (served k) in
+    let a = start k .args in
+    let r = rooms t (a .bw) (o .0 .1 .right) in
+    ((λ e. rooms t 16 (omega (arith, leb-true (k .before .luma-at .result + a .pad + 17) (a .cw + 2 * a .pad + 2 ^ 29) e, spot k .0))), r .0, r .1, o .0 .0 .bw2, o .1))
     (λ c. search needs)
     (λ c.
     let r = c .before .before in
-    let g = r .before .before in
-    let k = place2 g in
+    let t = r .before .before in
+    let k = first t .before in
     let o = served k in (
       sym (o .if1 .left) ∙ answer (o .before),
-      averaged _ _ _ _ _ _ _ _ _ _ (place k .0) (place k .1) _ _ _ _ (looked (looks k)) (g .before .before .before .before .before .before .choose .ensures, g .before .before .before .before .before .first-at .ensures)
-          (g .before .choose2 .ensures, g .first-at2 .ensures) (r .average-block .ensures),
+      averaged-views _ _ _ _ _ _ _ _ _ _ (place k .0) (place k .1) _ _ _ _ (looked (looks k)) (view1 t .before .choose .ensures, first t .first-at .ensures)
+          (t .before .choose2 .ensures, second t .first-at2 .ensures) (view1 t .tail .ensures) (t .tail2 .ensures) (r .average-block .ensures),
     ))
-    (λ c κs. let k = ok (served (place1 (c .before .before .before))) in (room1 (c .before .before .before), k .0 .0 .bw1, k .0 .0 .bw2, k .1))
+    (λ c. search needs)
+    (λ c κs. search needs)
+    (λ c κs.
+    let v = c .before in
+    let f = v .before .before .before .before in
+    let k = f .before in
+    let s = start k in
+    let o = ok (served k) in
+    (rows-room _ _ _ _ _ _ _ _ _ _ (place k .0) (place k .1) _ _ _ (s .fits .mvx .sfits) (s .fits .mvy .sfits) (o .0) _ (o .0 .1 .right) _ (near (looks k) .0) (v .choose3 .ensures, f .first-at .ensures), o .0 .0 .bw1, o .0 .0 .bw2, o .1))
     (λ c. search needs)
     (λ c.
     let r = c .before .before in
-    let e = r .before .before in
+    let v = r .before .before in
+    let e = v .before .before in
     let f = e .before .before in
-    let k = place1 f in
+    let k = f .before in
     let o = served k in (
       sym (o .if1 .left) ∙ answer (o .before),
-      copied _ _ _ _ _ _ _ _ _ _ (place k .0) (place k .1) _ _ _ _ (looked (looks k)) (f .before .choose .ensures, f .first-at .ensures) (twice e) (r .copy-block .ensures),
+      copied _ _ _ _ _ _ _ _ _ _ (place k .0) (place k .1) _ _ _ _ (looked (looks k)) (v .choose3 .ensures, f .first-at .ensures) (twice e) (r .copy-block .ensures),
     )))

@@ -10,10 +10,10 @@ use Rattle.hpel.proofs.rows.average_narrow.Statement.{statement}
 use Rattle.hpel.proofs.rows.average_narrow.Tie as tie
 
 abbrev Inv-loop : tie.InvT-loop
-Inv-loop a p b q ts bw bh dst₀ r₀ dst r = Rows dst₀ bw bh (λ x y. mean (getD a (p + y * ts + x) 0) (getD b (q + y * ts + x) 0)) r dst
+Inv-loop a b ts bw bh dst₀ r₀ dst r = Rows dst₀ bw bh (λ x y. mean (getD a (y * ts + x) 0) (getD b (y * ts + x) 0)) r dst
 
 abbrev μ-loop : tie.MeasureT-loop
-μ-loop a p b q ts bw bh dst₀ r₀ dst r = bh - r
+μ-loop a b ts bw bh dst₀ r₀ dst r = bh - r
 
 pub average-narrow-spec : {M : Type 1} → statement M
 average-narrow-spec =
@@ -22,9 +22,6 @@ average-narrow-spec =
     Inv-loop
     μ-loop
     (λ c. rows-none _ _ _ _ (omega arith))
-    (λ c. omega (arith, row-in (c .before .before .before .before .before .args .ts) (c .before .loop .inv) (c .loop-test .taken)))
-    (λ c. omega (arith, row-in (c .before .before .before .before .before .args .ts) (c .before .loop .inv) (c .loop-test .taken)))
-    (λ c. omega (arith, row-in (c .before .before .before .before .before .args .ts) (c .before .loop .inv) (c .loop-test .taken)))
     (λ c. omega (arith, row-in (c .before .before .before .before .before .args .ts) (c .before .loop .inv) (c .loop-test .taken)))
     (λ c. omega (arith, row-in 0 (c .before .before .loop .inv) (c .before .loop-test .taken)))
     (λ c κs.
