@@ -120,8 +120,9 @@ module _ {M : Type 1} (𝓤 : URA M) (H : Heap 𝓤) (A : Atoms 𝓤) (c : Forwa
   abbrev clauses : Clauses 𝓤 Caller
   clauses = promising 𝓤 Caller (c .promised)
 
-  abbrev pub Kept : Contract 𝓤
-  Kept = tripleOf 𝓤 H A (Caller .signature) (closing 𝓤 H A Caller clauses)
+  -- the contract that is to be met, and the one that the callee meets
+  abbrev pub Owed : Contract 𝓤
+  Owed = tripleOf 𝓤 H A (Caller .signature) (closing 𝓤 H A Caller clauses)
 
   abbrev pub Known : Contract 𝓤
   Known = tripleOf 𝓤 H A (Callee .signature) (closing 𝓤 H A Callee (promising 𝓤 Callee (c .by-callee)))
@@ -190,15 +191,15 @@ module _ {M : Type 1} (𝓤 : URA M) (H : Heap 𝓤) (A : Atoms 𝓤) (c : Forwa
         (λ κs. (LL.tells (T.the-type (first-lft (κs .0))) (T′.the-laws (first-lft (κs .0))), (uint-tells w64, (uint-tells w64, (uint-tells w64, (uint-tells w64, (sint-tells w32, (sint-tells w32, tt))))))))
         (λ κs qs bounds a g are. via 𝓤 _ (fst∗ 𝓤 _ (emp 𝓤)) (walk (κs .0) (qs .0) (a .0) (a .1) C Λ fm known (LL.lawful (T.the-type (first-lft (κs .0))) (T′.the-laws (first-lft (κs .0))) 𝓤 H A W .typed (a .0) _ (are .0) .0) (are .1)))
 
-    meets : (𝓣 : Tables 𝓤 H) → Triple 𝓤 (𝓣 .C (c .name)) Known → Triple 𝓤 (WpFn 𝓤 H (𝓣 .C) (𝓣 .Λ) code) Kept
+    meets : (𝓣 : Tables 𝓤 H) → Triple 𝓤 (𝓣 .C (c .name)) Known → Triple 𝓤 (WpFn 𝓤 H (𝓣 .C) (𝓣 .Λ) code) Owed
     meets 𝓣 known =
         walk-meets 𝓤 H A Caller stayed W (goes-dropped 𝓤 H A W 1 Bundle yes (λ κs x f. refl), (goes-dropped 𝓤 H A W 1 Num-usize yes (λ κs x f. refl), (goes-dropped 𝓤 H A W 1 Num-usize yes (λ κs x f. refl), (goes-dropped 𝓤 H A W 1 Num-usize yes (λ κs x f. refl), (goes-dropped 𝓤 H A W 1 Num-usize yes (λ κs x f. refl), (goes-dropped 𝓤 H A W 1 Num-i32 yes (λ κs x f. refl), (goes-dropped 𝓤 H A W 1 Num-i32 yes (λ κs x f. refl), tt))))))) clauses
         (WpFn 𝓤 H (𝓣 .C) (𝓣 .Λ) code) (WpFn-mono 𝓤 H (W .laws) 𝓣 code) (walks (𝓣 .C) (𝓣 .Λ) (fmOf 𝓤 H (W .laws) 𝓣) known)
 
 -- the function by its key, in an environment where the callee's name means a routine that meets the callee's contract
 pub keeps : {M : Type 1} (𝓤 : URA M) (H : Heap 𝓤) (𝓜 : Model 𝓤 H) (𝓖 : GhostRules 𝓤 H) (𝓡 : Running 𝓤 H 𝓜) (c : Forward 𝓤) (env : Env) (key : Name) → Closed 𝓤 H (tables 𝓤 H 𝓜 𝓡 env .C) (tables 𝓤 H 𝓜 𝓡 env .Λ) key (function (c .name) (c .result))
-    → (r : Routine) → env (c .name) ≡ r → Triple 𝓤 (𝓡 .run r) (Known 𝓤 H (𝓖 .A) c) → Triple 𝓤 (𝓡 .run (env key)) (Kept 𝓤 H (𝓖 .A) c)
+    → (r : Routine) → env (c .name) ≡ r → Triple 𝓤 (𝓡 .run r) (Known 𝓤 H (𝓖 .A) c) → Triple 𝓤 (𝓡 .run (env key)) (Owed 𝓤 H (𝓖 .A) c)
 unfolding tablesOf
 keeps 𝓤 H 𝓜 𝓖 𝓡 c env key closed r is-r met =
-    entered 𝓤 H (Kept 𝓤 H (𝓖 .A) c) (tables 𝓤 H 𝓜 𝓡 env .C) (tables 𝓤 H 𝓜 𝓡 env .Λ) key (function (c .name) (c .result)) closed
+    entered 𝓤 H (Owed 𝓤 H (𝓖 .A) c) (tables 𝓤 H 𝓜 𝓡 env .C) (tables 𝓤 H 𝓜 𝓡 env .Λ) key (function (c .name) (c .result)) closed
     (meets 𝓤 H (𝓖 .A) c (givenOf 𝓤 H 𝓜 𝓖) (tablesOf 𝓤 H 𝓜 (tables 𝓤 H 𝓜 𝓡 env)) (cited 𝓤 H (Known 𝓤 H (𝓖 .A) c) 𝓜 𝓡 env (c .name) r is-r met))
