@@ -2,3 +2,4 @@
 pub mod Apart
 pub mod Long
 pub mod Only
+pub mod Walk
