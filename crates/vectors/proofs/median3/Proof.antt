@@ -1,7 +1,7 @@
 -- `vectors::median3` meets its contract.
 -- Assumes nothing.
 use borrow.Author.Needs.{needs}
-use mathlib.Core.Path.{_≡_, sym, ap, _∙_}
+use mathlib.Core.Path.{_∙_}
 use mir.Syntax.{w32}
 use mir.Facts.{toZ-ofZ}
 use Rattle.vectors.proofs.Wraps.{wraps}
@@ -58,17 +58,17 @@ returns c =
     let a = toZ-ofZ (s .fits .a) in
     let b = toZ-ofZ (s .fits .b) in
     let d = toZ-ofZ (s .fits .c) in
-    let lo₁ = toZ-ofZ {w = w32} {z = c4 .before .before .before .min-i32 .result} (record { sfits = c4 .before .before .before .min-i32 .ok }) in
-    let lo₂ = toZ-ofZ {w = w32} {z = c4 .before .before .min-i322 .result} (record { sfits = c4 .before .before .min-i322 .ok }) in
-    let hi₁ = toZ-ofZ {w = w32} {z = c4 .before .max-i32 .result} (record { sfits = c4 .before .max-i32 .ok }) in
-    let hi₂ = toZ-ofZ {w = w32} {z = c4 .max-i322 .result} (record { sfits = c4 .max-i322 .ok }) in
+    let lo₁ = toZ-ofZ {w = w32} {z = c4 .before .before .before .min-i32 .result} (record { sfits = c4 .before .before .before .min-i32 .ok }) ∙ (simp (b, d) at (c4 .before .before .before .min-i32 .ensures)) in
+    let lo₂ = toZ-ofZ {w = w32} {z = c4 .before .before .min-i322 .result} (record { sfits = c4 .before .before .min-i322 .ok }) ∙ (simp (a, lo₁) at (c4 .before .before .min-i322 .ensures)) in
+    let hi₁ = toZ-ofZ {w = w32} {z = c4 .before .max-i32 .result} (record { sfits = c4 .before .max-i32 .ok }) ∙ (simp (b, d) at (c4 .before .max-i32 .ensures)) in
+    let hi₂ = toZ-ofZ {w = w32} {z = c4 .max-i322 .result} (record { sfits = c4 .max-i322 .ok }) ∙ (simp (a, hi₁) at (c4 .max-i322 .ensures)) in
     toZ-ofZ {w = w32} {z = c .from-bits .result} (record { sfits = c .from-bits .ok })
     ∙ c .from-bits .ensures
     ∙ wraps (c7 .wrapping-add-u32 .result) (c .before .before .before .before .before .wrapping-add-u322 .result) (c .before .before .before .wrapping-sub-u32 .result) (c .before .wrapping-sub-u322 .result) (c .before .before .before .wrapping-sub-u32 .ok) (c .before .wrapping-sub-u322 .ok) (s .fits .a) (s .fits .b) (s .fits .c) (
-      rw (c7 .before .before .to-bits .ensures, c7 .before .to-bits2 .ensures, a, b) at (c7 .wrapping-add-u32 .ensures),
-      rw (c .before .before .before .before .before .before .to-bits3 .ensures, d) at (c .before .before .before .before .before .wrapping-add-u322 .ensures),
-      rw (c .before .before .before .before .to-bits4 .ensures, lo₂, c4 .before .before .min-i322 .ensures, lo₁, c4 .before .before .before .min-i32 .ensures, a, b, d) at (c .before .before .before .wrapping-sub-u32 .ensures),
-      rw (c .before .before .to-bits5 .ensures, hi₂, c4 .max-i322 .ensures, hi₁, c4 .before .max-i32 .ensures, a, b, d) at (c .before .wrapping-sub-u322 .ensures),
+      simp (c7 .before .before .to-bits .ensures, c7 .before .to-bits2 .ensures, a, b) at (c7 .wrapping-add-u32 .ensures),
+      simp (c .before .before .before .before .before .before .to-bits3 .ensures, d) at (c .before .before .before .before .before .wrapping-add-u322 .ensures),
+      simp (c .before .before .before .before .to-bits4 .ensures, lo₂) at (c .before .before .before .wrapping-sub-u32 .ensures),
+      simp (c .before .before .to-bits5 .ensures, hi₂) at (c .before .wrapping-sub-u322 .ensures),
     )
 
 pub median3-spec : {M : Type 1} → statement M
