@@ -42,7 +42,12 @@ impl<'a> HpelPlanes<'a> {
     /// The tail of one of the planes.
     #[inline]
     fn view(self, spot: HpelSpot) -> View<'a> {
-        let plane = [self.f, self.h, self.v, self.c][spot.plane as usize];
+        let plane = match spot.plane {
+            0 => self.f,
+            1 => self.h,
+            2 => self.v,
+            _ => self.c,
+        };
         View { samples: &plane[spot.offset..], stride: spot.stride }
     }
 }
@@ -276,7 +281,8 @@ pub fn hpel_qpel_refs(
     mvx: i32,
     mvy: i32,
 ) -> Result<[View<'_>; 2], Refusal> {
-    hpel_qpel_refs_at(p, x0, y0, bw, bh, mvx, mvy).map(|spots| spots.map(|spot| p.view(spot)))
+    let [a, b] = hpel_qpel_refs_at(p, x0, y0, bw, bh, mvx, mvy)?;
+    Ok([p.view(a), p.view(b)])
 }
 
 /// Copies a luma block at a half phase, or averages it at a quarter phase, into `out`, packed by
