@@ -3,7 +3,7 @@ ghost use mathlib.Core.Path.{_≡_};
 ghost use lib.ListN.{length};
 ghost use Rattle.grid.specs.Block.{drawn};
 ghost use Rattle.place.specs.Outcome.{after};
-ghost use Rattle.hpel.specs.Served.{blockRefusal};
+ghost use Rattle.served.specs.Served.{blockRefusal};
 ghost use Rattle.hpel.specs.Lookup.{refAt, qpelAt};
 ghost use Rattle.hpel.specs.Reading.{contents, refTail, qpelTails, hpelSample};
 

@@ -1,27 +1,22 @@
--- The hpel calls in the code's unsigned places: each test, what an answer of 0 tells, where the blocks lie, and what lookups and blocks are. Assumes nothing.
+-- Lookups and blocks of half-sample planes: where they lie, and what they are. Assumes nothing.
 use mathlib.Core.Path.{_≡_, refl, sym, ap, ap₂, _∙_}
-use mathlib.Core.Bool.{Bool, true, false, false≢true, cond, not, _&&_, _||_}
-use mathlib.Core.List.{List, [], _∷_, _++_}
-use mathlib.Core.Logic.{⊎-elim}
+use mathlib.Core.Bool.{Bool, true, false, false≢true, cond, _||_}
+use mathlib.Core.List.{List, [], _∷_}
 use Prim.Native.Nat.{ℕ, zero, suc, _+_, _*_, _-_, _/_, _%_, _^_, _≤_, _<_}
 use native.Mathlib.Nat.{add-assoc, mul-le-mul-right}
 use native.Mathlib.Omega.{arith}
 use lib.Dec.{eqb, ltb}
-use lib.IntN.{ℤ, pos, subℕ, _+ℤ_}
+use lib.IntN.{ℤ, subℕ}
 use lib.ListN.{length, take, drop, getD, length-drop}
 use lib.Seq.{take-all, getD-drop}
-use lib.Signed.{mag, ltZ}
-use borrow.Author.Tests.{ltb-false, lt-ltb, le-ltb}
+use lib.Signed.{mag}
 use Rattle.signed.specs.Lift.{up}
-use Rattle.signed.proofs.Diff.{lt-or-le, sub-ind, is-pos}
-use Rattle.signed.proofs.Linear.{diff, linear, diff-same}
+use Rattle.signed.proofs.Diff.{is-pos}
 use Rattle.grid.specs.Block.{drawn}
 use Rattle.grid.proofs.Fill.{drawn-ext}
 use Rattle.place.specs.Outcome.{after}
 use Rattle.place.specs.Place.{lumaPlace, phase}
-use Rattle.place.specs.Refusal.{short, lowest}
-use Rattle.place.proofs.CoordLaws.{luma-up}
-use Rattle.place.proofs.Refused.{kept, miss, first, none, second, split-zero, passed, both-inside, both-below}
+use Rattle.place.proofs.Refused.{kept}
 use Rattle.planes.specs.Planes.{wide}
 use Rattle.samples.specs.declared.phases.Anchor.{Anchor}
 use Rattle.samples.specs.declared.phases.Phase.{Phase}
@@ -30,123 +25,11 @@ use Rattle.samples.specs.Tap.{mean}
 use Rattle.samples.proofs.Reach.{Near, mean-same}
 use Rattle.hpel.specs.declared.HpelAt.{HpelAt}
 use Rattle.hpel.specs.declared.HpelPair.{HpelPair}
-use Rattle.hpel.specs.Served.{atFull, atQuarter, badWidth, before, beyond, lentTests, placeTests, refRefusal, qpelRefusal, blockRefusal}
+use Rattle.served.proofs.Laws.{LentOk, PlaceOk, Ok, place-is}
+use Rattle.served.specs.Served.{atQuarter}
 use Rattle.hpel.specs.Lookup.{firstAt, inOrder, oneAt, twoAt, refAt, qpelAt}
 use Rattle.hpel.specs.Reading.{planeOf, refTail, qpelTails, anchorAt, hpelSample}
 
--- ---- the tests of a place that is b up
-
-before-is : (x b : ℕ) → before (diff x b) ≡ ltb x b
-unfolding before diff
-before-is x b =
-    sub-ind (λ z. ltZ z (pos 0) ≡ ltb x b) x b (λ k e. le-ltb k 0 (omega arith) ∙ sym (le-ltb x b (omega arith))) (λ k e. sym (lt-ltb x b (omega arith)))
-
-over : (n x b : ℕ) → ltZ (pos n) (diff x b) ≡ ltb (n + b) x
-unfolding diff
-over n x b =
-    sub-ind (λ z. ltZ (pos n) z ≡ ltb (n + b) x) x b
-    (λ k e.
-    ⊎-elim (λ (h : n < k). lt-ltb n k h ∙ sym (lt-ltb (n + b) x (omega arith))) (λ (h : k ≤ n). le-ltb n k h ∙ sym (le-ltb (n + b) x (omega arith))) (lt-or-le n k))
-    (λ k e. sym (le-ltb (n + b) x (omega arith)))
-
-beyond-is : (x b bw n : ℕ) → beyond (diff x b) bw n ≡ ltb (n + b) (x + bw + 1)
-unfolding beyond
-beyond-is x b bw n =
-    let e : diff x b +ℤ pos (bw + 1) ≡ diff (x + bw + 1) b = simp linear (diff-same _ _ _ _ (omega arith)) in ap (ltZ (pos n)) e ∙ over n (x + bw + 1) b
-
--- THE BRIDGE: the code's place is the definition's, 2^29 up
-pub place-is : (x0 : ℕ) (mv : ℤ) (pad : ℕ) {x : ℕ} → mag mv < 2 ^ 31 → x ≡ x0 + up (2 ^ 31) mv / 4 → subℕ (x + pad) (2 ^ 29) ≡ lumaPlace x0 mv pad
-unfolding diff
-place-is x0 mv pad h e = ap (λ (k : ℕ). subℕ (k + pad) (2 ^ 29)) e ∙ sym (luma-up x0 mv pad h)
-
--- the tests of 6, as the code makes them
-abbrev pub upTests : (unserved : Bool) (pw ph bw bh x y : ℕ) → List (ℕ × Bool)
-upTests unserved pw ph bw bh x y =
-    (6, unserved) ∷ (6, ltb x (2 ^ 29)) ∷ (6, ltb y (2 ^ 29)) ∷ (6, ltb (pw + 2 ^ 29) (x + bw + 1)) ∷ (6, ltb (ph + 2 ^ 29) (y + bh + 1)) ∷ []
-
-pub up-tests : (unserved : Bool) (pw ph bw bh x0 y0 pad : ℕ) (mvx mvy : ℤ) {x y : ℕ} → mag mvx < 2 ^ 31 → mag mvy < 2 ^ 31
-    → x ≡ x0 + up (2 ^ 31) mvx / 4 → y ≡ y0 + up (2 ^ 31) mvy / 4
-    → upTests unserved pw ph bw bh (x + pad) (y + pad) ≡ placeTests unserved pw ph bw bh (lumaPlace x0 mvx pad) (lumaPlace y0 mvy pad)
-unfolding placeTests diff
-up-tests u pw ph bw bh x0 y0 pad mvx mvy {x} {y} p q ex ey =
-    let s = x + pad in
-    let t = y + pad in
-    sym (λ i. (6, u) ∷ (6, before-is s (2 ^ 29) i) ∷ (6, before-is t (2 ^ 29) i) ∷ (6, beyond-is s (2 ^ 29) bw pw i) ∷ (6, beyond-is t (2 ^ 29) bh ph i) ∷ [])
-    ∙ ap₂ (placeTests u pw ph bw bh) (place-is x0 mvx pad p ex) (place-is y0 mvy pad q ey)
-
--- the phase's test by another name
-pub same-test : {m : ℕ} {s t : Bool} (pw ph bw bh : ℕ) (px py : ℤ) → m ≡ lowest (placeTests s pw ph bw bh px py) → s ≡ t → m ≡ lowest (placeTests t pw ph bw bh px py)
-same-test pw ph bw bh px py e g = e ∙ ap (λ (b : Bool). lowest (placeTests b pw ph bw bh px py)) g
-
--- ---- THE LAWS OF 0
-
-module _ (f h v c w ht pad x0 y0 bw bh : ℕ) where
-  pub record LentOk : Type 0 where
-    pub w1 : 1 ≤ w
-    pub w2 : w ≤ 8192
-    pub h1 : 1 ≤ ht
-    pub h2 : ht ≤ 8192
-    pub pad2 : pad ≤ 128
-    pub f-room : (w + 2 * pad) * (ht + 2 * pad) ≤ f
-    pub h-room : (w + 2 * pad) * (ht + 2 * pad) ≤ h
-    pub v-room : (w + 2 * pad) * (ht + 2 * pad) ≤ v
-    pub c-room : (w + 2 * pad) * (ht + 2 * pad) ≤ c
-    pub bw1 : 1 ≤ bw
-    pub bw2 : bw ≤ 16
-    pub bh1 : 1 ≤ bh
-    pub bh2 : bh ≤ 16
-    pub x2 : x0 ≤ 65535
-    pub y2 : y0 ≤ 65535
-
-  pub lent-ok : 0 ≡ lowest (lentTests f h v c w ht pad x0 y0 bw bh) → LentOk
-  unfolding lentTests
-  lent-ok e =
-      let p1 = passed _ _ _ e in
-      let p2 = passed _ _ _ (p1 .1) in
-      let p3 = passed _ _ _ (p2 .1) in
-      let p4 = passed _ _ _ (p3 .1) in
-      let p5 = passed _ _ _ (p4 .1) in
-      let p6 = passed _ _ _ (p5 .1) in
-      let p7 = passed _ _ _ (p6 .1) in
-      let p8 = passed _ _ _ (p7 .1) in
-      let a = both-inside 1 8192 w ht (p1 .0) in
-      let b = both-inside 1 16 bw bh (p7 .0) in
-      let x = both-below 65535 x0 y0 (p8 .0) in
-      record {
-        w1 = a .0;
-        w2 = a .1;
-        h1 = a .2;
-        h2 = a .3;
-        pad2 = ltb-false _ _ (p2 .0);
-        f-room = ltb-false _ _ (p3 .0);
-        h-room = ltb-false _ _ (p4 .0);
-        v-room = ltb-false _ _ (p5 .0);
-        c-room = ltb-false _ _ (p6 .0);
-        bw1 = b .0;
-        bw2 = b .1;
-        bh1 = b .2;
-        bh2 = b .3;
-        x2 = x .0;
-        y2 = x .1;
-      }
-
--- of a place that is 2^29 up
-pub record PlaceOk (pw ph bw bh x y : ℕ) : Type 0 where
-  pub left : 2 ^ 29 ≤ x
-  pub above : 2 ^ 29 ≤ y
-  pub right : x + bw + 1 ≤ pw + 2 ^ 29
-  pub below : y + bh + 1 ≤ ph + 2 ^ 29
-
-place-ok : (unserved : Bool) (pw ph bw bh x y : ℕ) → 0 ≡ lowest (upTests unserved pw ph bw bh x y) → PlaceOk pw ph bw bh x y
-place-ok u pw ph bw bh x y e =
-    let p1 = passed _ _ _ e in
-    let p2 = passed _ _ _ (p1 .1) in
-    let p3 = passed _ _ _ (p2 .1) in
-    let p4 = passed _ _ _ (p3 .1) in
-    let p5 = passed _ _ _ (p4 .1) in
-    record { left = ltb-false _ _ (p2 .0); above = ltb-false _ _ (p3 .0); right = ltb-false _ _ (p4 .0); below = ltb-false _ _ (p5 .0) }
-
--- what `first_at` requires
 pub first-asks : (f h v c w ht pad x0 y0 bw bh : ℕ) {m n x y : ℕ} → m ≡ x → n ≡ y
     → LentOk f h v c w ht pad x0 y0 bw bh × PlaceOk (wide w pad) (wide ht pad) bw bh (x + pad) (y + pad) → (a : Anchor) → Near a
     → (2 ^ 29 ≤ m + pad) × (2 ^ 29 ≤ n + pad) × (m + pad ≤ 2 ^ 31) × (n + pad ≤ 2 ^ 31) × (wide w pad ≤ 8448) × (a .dx ≤ 1) × (a .dy ≤ 1)
@@ -193,84 +76,16 @@ order-near k n = go (ltb (k .q .kind) (k .p .kind))
 
 -- ---- one call
 
-module _ (f h v c w ht pad x0 y0 bw bh : ℕ) where
-  abbrev lent : List (ℕ × Bool)
-  lent = lentTests f h v c w ht pad x0 y0 bw bh
-
-  -- tests that follow those of 1 to 4, and those of 5
-  pub lent-then : (m : ℕ) (rest : List (ℕ × Bool)) → 0 ≡ lowest lent → m ≡ lowest rest → m ≡ lowest (lent ++ rest)
-  unfolding lentTests
-  lent-then m rest = second lent rest m tt
-
-  abbrev roomy : (out : ℕ) → List (ℕ × Bool)
-  roomy out = lent ++ ((5, short out (bw * bh)) ∷ [])
-
-  pub room-then : (out m : ℕ) (rest : List (ℕ × Bool)) → 0 ≡ lowest lent → bw * bh ≤ out → m ≡ lowest rest → m ≡ lowest (roomy out ++ rest)
-  unfolding lentTests
-  room-then out m rest e b = second (roomy out) rest m tt (lent-then 0 _ e (miss 5 [] (le-ltb out (bw * bh) b) none))
-
-  module _ (mvx mvy : ℤ) where
-    abbrev at : Bool → List (ℕ × Bool)
-    at unserved = placeTests unserved (wide w pad) (wide ht pad) bw bh (lumaPlace x0 mvx pad) (lumaPlace y0 mvy pad)
-
-    pub place-then : (out : ℕ) (unserved : Bool) (m : ℕ) (rest : List (ℕ × Bool)) → 0 ≡ lowest lent → bw * bh ≤ out → 0 ≡ lowest (at unserved) → m ≡ lowest rest
-        → m ≡ lowest (roomy out ++ at unserved ++ rest)
-    unfolding lentTests placeTests
-    place-then out u m rest e b p = second (roomy out ++ at u) rest m tt (room-then out 0 (at u) e b p)
-
-    -- an answer of those before the place's
-    pub sooner : (out : ℕ) (unserved : Bool) (m : ℕ) (rest : List (ℕ × Bool)) → m ≡ lowest (roomy out) → (m ≡ 0 → ⊥) → m ≡ lowest (roomy out ++ at unserved ++ rest)
-    sooner out u m rest e n = first (roomy out ++ at u) rest m (first (roomy out) (at u) m e n) n
-
-    -- an answer of 0 says that no test of 1 to 4, nor of 6 by the place, held
-    abbrev pub Passes : (unserved : Bool) → Type 0
-    Passes unserved = (0 ≡ lowest lent) × (0 ≡ lowest (at unserved))
-
-    pub ref-passes : 0 ≡ refRefusal f h v c w ht pad x0 y0 bw bh mvx mvy → Passes (atQuarter (phase mvx 4) (phase mvy 4))
-    unfolding refRefusal lentTests
-    ref-passes e = split-zero lent (at (atQuarter (phase mvx 4) (phase mvy 4))) tt e
-
-    pub qpel-passes : 0 ≡ qpelRefusal f h v c w ht pad x0 y0 bw bh mvx mvy → Passes (not (atQuarter (phase mvx 4) (phase mvy 4)))
-    unfolding qpelRefusal lentTests
-    qpel-passes e = split-zero lent (at (not (atQuarter (phase mvx 4) (phase mvy 4)))) tt e
-
-    pub block-passes : (out : ℕ) → 0 ≡ blockRefusal f h v c w ht pad x0 y0 bw bh mvx mvy out → Passes (atFull (phase mvx 4) (phase mvy 4)) × (bw * bh ≤ out)
-    unfolding blockRefusal lentTests placeTests
-    block-passes out e =
-        let u = atFull (phase mvx 4) (phase mvy 4) in
-        let s = split-zero (roomy out ++ at u) ((6, atQuarter (phase mvx 4) (phase mvy 4) && badWidth bw) ∷ []) tt e in
-        let t = split-zero (roomy out) (at u) tt (s .0) in
-        let r = split-zero lent ((5, short out (bw * bh)) ∷ []) tt (t .0) in
-        ((r .0, t .1), ltb-false _ _ (passed _ _ _ (r .1) .0))
-
-    abbrev pub Ok : Type 0
-    Ok = LentOk f h v c w ht pad x0 y0 bw bh
-        × PlaceOk (wide w pad) (wide ht pad) bw bh (x0 + up (2 ^ 31) mvx / 4 + pad) (y0 + up (2 ^ 31) mvy / 4 + pad)
-
-    module _ (p : mag mvx < 2 ^ 31) (q : mag mvy < 2 ^ 31) where
-      ok : (unserved : Bool) → Passes unserved → Ok
-      ok u a =
-          let t = up-tests u (wide w pad) (wide ht pad) bw bh x0 y0 pad mvx mvy p q refl refl in
-          (lent-ok f h v c w ht pad x0 y0 bw bh (a .0), place-ok u (wide w pad) (wide ht pad) bw bh _ _ (a .1 ∙ ap lowest (sym t)))
-
-      pub ref-ok : 0 ≡ refRefusal f h v c w ht pad x0 y0 bw bh mvx mvy → Ok
-      ref-ok e = ok _ (ref-passes e)
-
-      pub qpel-ok : 0 ≡ qpelRefusal f h v c w ht pad x0 y0 bw bh mvx mvy → Ok
-      qpel-ok e = ok _ (qpel-passes e)
-
-      pub block-ok : (out : ℕ) → 0 ≡ blockRefusal f h v c w ht pad x0 y0 bw bh mvx mvy out → Ok × (bw * bh ≤ out)
-      block-ok out e = let s = block-passes out e in (ok _ (s .0), s .1)
-
-      -- an anchor's rows lie within its plane, with as many samples as lie before the plane's last column
-      rows-in : (n : ℕ) → x0 + up (2 ^ 31) mvx / 4 + pad + n + 1 ≤ wide w pad + 2 ^ 29 → (a : Anchor) → Near a → Ok
-          → firstAt a (wide w pad) (lumaPlace x0 mvx pad) (lumaPlace y0 mvy pad) + (bh - 1) * wide w pad + n ≤ wide w pad * wide ht pad
-      rows-in n right a near k =
-          let x = x0 + up (2 ^ 31) mvx / 4 + pad in
-          let y = y0 + up (2 ^ 31) mvy / 4 + pad in
-          let e : firstAt a (wide w pad) (lumaPlace x0 mvx pad) (lumaPlace y0 mvy pad) ≡ (y - 2 ^ 29 + a .dy) * wide w pad + (x - 2 ^ 29 + a .dx) =
-          sym (first-up a (wide w pad) x y (k .1 .left) (k .1 .above) ∙ ap₂ (firstAt a (wide w pad)) (place-is x0 mvx pad p refl) (place-is y0 mvy pad q refl)) in
-          rw e (last-in (wide w pad) (wide ht pad) n (bh - 1) (x - 2 ^ 29 + a .dx) (y - 2 ^ 29 + a .dy) (omega (arith, k)) (omega (arith, k)))
+-- an anchor's rows lie within its plane, with as many samples as lie before the plane's last column
+rows-in : (f h v c w ht pad x0 y0 bw bh : ℕ) (mvx mvy : ℤ) → mag mvx < 2 ^ 31 → mag mvy < 2 ^ 31 → (n : ℕ) → x0 + up (2 ^ 31) mvx / 4 + pad + n + 1 ≤ wide w pad + 2 ^ 29 → (a : Anchor) → Near a
+    → Ok f h v c w ht pad x0 y0 bw bh mvx mvy
+    → firstAt a (wide w pad) (lumaPlace x0 mvx pad) (lumaPlace y0 mvy pad) + (bh - 1) * wide w pad + n ≤ wide w pad * wide ht pad
+rows-in f h v c w ht pad x0 y0 bw bh mvx mvy p q n right a near k =
+    let x = x0 + up (2 ^ 31) mvx / 4 + pad in
+    let y = y0 + up (2 ^ 31) mvy / 4 + pad in
+    let e : firstAt a (wide w pad) (lumaPlace x0 mvx pad) (lumaPlace y0 mvy pad) ≡ (y - 2 ^ 29 + a .dy) * wide w pad + (x - 2 ^ 29 + a .dx) =
+    sym (first-up a (wide w pad) x y (k .1 .left) (k .1 .above) ∙ ap₂ (firstAt a (wide w pad)) (place-is x0 mvx pad p refl) (place-is y0 mvy pad q refl)) in
+    rw e (last-in (wide w pad) (wide ht pad) n (bh - 1) (x - 2 ^ 29 + a .dx) (y - 2 ^ 29 + a .dy) (omega (arith, k)) (omega (arith, k)))
 
 -- ---- lookups
 
@@ -334,10 +149,6 @@ module _ (f h v c : List ℕ) where
           (λ i. tail-is (k .refusal) (k .«plane_a») (k .«offset_a») z p q i ∷ tail-is (k .refusal) (k .«plane_b») (k .«offset_b») z r o i ∷ []) ∙ ap two e
 
 -- ---- blocks
-
--- a width by its literal
-pub as-wide : {d : List ℕ} {m n : ℕ} (out : List ℕ) (h : ℕ) (g : ℕ → ℕ → ℕ) → m ≡ n → d ≡ drawn out n h g → d ≡ drawn out m h g
-as-wide out h g e p = p ∙ ap (λ (w : ℕ). drawn out w h g) (sym e)
 
 -- an even component is 0 or 2
 even : (P : ℕ → Type 0) (n : ℕ) → n < 4 → eqb (n % 2) 1 ≡ false → P 0 → P 2 → P n

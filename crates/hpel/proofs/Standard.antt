@@ -21,10 +21,10 @@ use Rattle.samples.specs.declared.phases.Phase.{Phase}
 use Rattle.samples.specs.Tap.{half, centre, mean}
 use Rattle.samples.specs.Phase.{Window, at, anchorOf, anchor, pair, phases, phaseOf, lumaSample}
 use Rattle.samples.proofs.Reach.{both, Near, phase-near}
-use Rattle.hpel.specs.Served.{before, beyond, lentTests, placeTests, refRefusal, qpelRefusal, blockRefusal}
+use Rattle.served.specs.Served.{before, beyond, lentTests, placeTests, refRefusal, qpelRefusal, blockRefusal}
 use Rattle.hpel.specs.Lookup.{firstAt}
 use Rattle.hpel.specs.Reading.{planeOf, anchorAt, hpelSample}
-use Rattle.hpel.proofs.Laws.{Passes, ref-passes, qpel-passes, block-passes}
+use Rattle.served.proofs.Laws.{Passes, ref-passes, qpel-passes, block-passes}
 
 -- ---- places of a block that is served
 

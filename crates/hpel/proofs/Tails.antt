@@ -16,10 +16,11 @@ use Rattle.samples.specs.declared.phases.Anchor.{Anchor}
 use Rattle.samples.specs.declared.phases.Phase.{Phase}
 use Rattle.samples.specs.Phase.{phaseOf}
 use Rattle.samples.proofs.Reach.{Near, phase-near}
-use Rattle.hpel.specs.Served.{refRefusal, qpelRefusal}
+use Rattle.served.specs.Served.{refRefusal, qpelRefusal}
 use Rattle.hpel.specs.Lookup.{firstAt, inOrder, oneAt, twoAt, refAt, qpelAt}
 use Rattle.hpel.specs.Reading.{planeOf, refTail, qpelTails, anchorAt}
-use Rattle.hpel.proofs.Laws.{Ok, ref-ok, qpel-ok, order-near, rows-room, no-tail, no-tails}
+use Rattle.served.proofs.Laws.{Ok, ref-ok, qpel-ok}
+use Rattle.hpel.proofs.Laws.{order-near, rows-room, no-tail, no-tails}
 
 -- what a lookup answers with is the refusal
 one-answers : (n : ℕ) (a : Anchor) (pw : ℕ) (px py : ℤ) → oneAt n a pw px py .refusal ≡ n

@@ -17,10 +17,11 @@ use Rattle.samples.specs.declared.phases.Phase.{Phase}
 use Rattle.samples.specs.Tap.{mean}
 use Rattle.samples.specs.Phase.{pair}
 use Rattle.samples.proofs.Reach.{mean-same}
-use Rattle.hpel.specs.Served.{atQuarter, placeTests, refRefusal, qpelRefusal}
+use Rattle.served.specs.Served.{atQuarter, placeTests, refRefusal, qpelRefusal}
 use Rattle.hpel.specs.Lookup.{inOrder, oneAt, twoAt, refAt, qpelAt}
 use Rattle.hpel.specs.Reading.{hpelSample}
-use Rattle.hpel.proofs.Laws.{ref-passes, one-anchor}
+use Rattle.served.proofs.Laws.{ref-passes}
+use Rattle.hpel.proofs.Laws.{one-anchor}
 use Rattle.hpel.proofs.Tails.{one, two, anchors, view, view1, view2, read, view-reads, view1-reads, view2-reads}
 
 -- ---- a lookup of numbers that did not refuse

@@ -11,7 +11,7 @@ use Rattle.samples.specs.declared.phases.Phase.{Phase}
 use Rattle.samples.specs.Phase.{pair, phaseOf}
 use Rattle.hpel.specs.declared.HpelAt.{HpelAt}
 use Rattle.hpel.specs.declared.HpelPair.{HpelPair}
-use Rattle.hpel.specs.Served.{refRefusal, qpelRefusal}
+use Rattle.served.specs.Served.{refRefusal, qpelRefusal}
 
 -- where an anchor's samples of the block at (px, py) begin in its plane, whose rows have pw samples
 unfoldable pub firstAt : Anchor → (pw : ℕ) (px py : ℤ) → ℕ

@@ -5,7 +5,7 @@ ghost use lib.IntN.{subℕ};
 ghost use lib.ListN.{length, drop};
 ghost use Rattle.grid.specs.Block.{drawn};
 ghost use Rattle.place.specs.Outcome.{after};
-ghost use Rattle.hpel.specs.Served.{blockRefusal};
+ghost use Rattle.served.specs.Served.{blockRefusal};
 ghost use Rattle.hpel.specs.Lookup.{firstAt, inOrder, refAt, qpelAt};
 ghost use Rattle.hpel.specs.Reading.{planeOf, contents, refTail, qpelTails, hpelSample};
 use place::coords;
@@ -13,9 +13,6 @@ use place::limits;
 use samples::phases;
 use samples::phases::Anchor;
 use samples::phases::Phase;
-
-pub mod rows;
-pub mod served;
 
 // One plane: the refusal, the plane's number, the offset of the block's first sample in it, and the stride.
 #[repr(C)]

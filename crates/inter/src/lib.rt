@@ -15,7 +15,7 @@ ghost use Rattle.margins.specs.Margin.{expanded};
 ghost use Rattle.padded.specs.Padded.{paddedLuma, paddedChroma};
 ghost use Rattle.lent.specs.Lent.{Predicted};
 ghost use Rattle.planes.specs.Planes.{wide, paddedAt, acrossAt, downAt, centreAt, paddedPlane, padRefusal, buildRefusal};
-ghost use Rattle.hpel.specs.Served.{blockRefusal};
+ghost use Rattle.served.specs.Served.{blockRefusal};
 ghost use Rattle.hpel.specs.Lookup.{refAt, qpelAt};
 ghost use Rattle.hpel.specs.Reading.{hpelSample};
 ghost use Rattle.edge.specs.Edge.{edgeRefusal, outsideCount, answer};

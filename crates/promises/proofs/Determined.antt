@@ -10,7 +10,7 @@ use lib.ListN.{length}
 use Rattle.grid.specs.Block.{drawn}
 use Rattle.place.specs.Outcome.{after}
 use Rattle.lent.specs.Lent.{Predicted}
-use Rattle.hpel.specs.Served.{blockRefusal}
+use Rattle.served.specs.Served.{blockRefusal}
 use Rattle.hpel.specs.Lookup.{refAt, qpelAt}
 use Rattle.hpel.specs.Reading.{contents, refTail, qpelTails, hpelSample}
 use Rattle.bundle.specs.declared.HpelPlanes.{HpelPlanes}

@@ -14,8 +14,9 @@ use Rattle.place.proofs.Refused.{kept}
 use Rattle.samples.specs.declared.phases.Phase.{Phase}
 use Rattle.samples.specs.Phase.{phaseOf}
 use Rattle.samples.proofs.Reach.{Near, phase-near}
-use Rattle.hpel.specs.Served.{blockRefusal}
-use Rattle.hpel.proofs.Laws.{Ok, block-ok, place-is, first-asks, one-anchor, rows-room, view-room, averaged-views, copied}
+use Rattle.served.specs.Served.{blockRefusal}
+use Rattle.served.proofs.Laws.{Ok, block-ok, place-is}
+use Rattle.hpel.proofs.Laws.{first-asks, one-anchor, rows-room, view-room, averaged-views, copied}
 use Rattle.hpel.proofs.hpel_block.Statement.{statement}
 use Rattle.hpel.proofs.hpel_block.Tie as tie
 

@@ -10,9 +10,10 @@ use Rattle.signed.specs.Lift.{up}
 use Rattle.place.specs.Place.{phase}
 use Rattle.samples.specs.Phase.{phaseOf}
 use Rattle.samples.proofs.Reach.{Near, phase-near}
-use Rattle.hpel.specs.Served.{qpelRefusal}
+use Rattle.served.specs.Served.{qpelRefusal}
 use Rattle.hpel.specs.Lookup.{inOrder, qpelAt}
-use Rattle.hpel.proofs.Laws.{Ok, qpel-ok, place-is, first-asks, order-near, two-refused, two-served}
+use Rattle.served.proofs.Laws.{Ok, qpel-ok, place-is}
+use Rattle.hpel.proofs.Laws.{first-asks, order-near, two-refused, two-served}
 use Rattle.hpel.proofs.hpel_qpel_refs_at.Statement.{statement}
 use Rattle.hpel.proofs.hpel_qpel_refs_at.Tie as tie
 

@@ -11,9 +11,10 @@ use Rattle.place.specs.Place.{phase}
 use Rattle.samples.specs.declared.phases.Phase.{Phase}
 use Rattle.samples.specs.Phase.{phaseOf}
 use Rattle.samples.proofs.Reach.{Near, phase-near}
-use Rattle.hpel.specs.Served.{refRefusal}
+use Rattle.served.specs.Served.{refRefusal}
 use Rattle.hpel.specs.Lookup.{refAt}
-use Rattle.hpel.proofs.Laws.{Ok, ref-ok, place-is, first-asks, one-refused, one-served}
+use Rattle.served.proofs.Laws.{Ok, ref-ok, place-is}
+use Rattle.hpel.proofs.Laws.{first-asks, one-refused, one-served}
 use Rattle.hpel.proofs.hpel_ref_at.Statement.{statement}
 use Rattle.hpel.proofs.hpel_ref_at.Tie as tie
 

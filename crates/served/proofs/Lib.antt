@@ -1,0 +1,2 @@
+-- Laws of the tests that the calls of the half-sample planes make.
+pub mod Laws
