@@ -412,8 +412,9 @@ fn luma_phases() -> impl Iterator<Item = (i32, i32)> {
 const LUMA_EDGES: [(usize, (i32, i32)); 6] =
     [(16, (0, 0)), (16, (2, 2)), (8, (0, 0)), (8, (2, 2)), (4, (0, 0)), (4, (2, 2))];
 
-/// Three that are copied, and four that are averaged.
-const HALF_PHASES: [(i32, i32); 7] = [(2, 0), (0, 2), (2, 2), (1, 0), (1, 1), (3, 2), (3, 3)];
+/// Three that are copied, and five that are averaged.
+const HALF_PHASES: [(i32, i32); 8] =
+    [(2, 0), (0, 2), (2, 2), (1, 0), (1, 1), (2, 1), (3, 2), (3, 3)];
 
 const CHROMA_PHASES: [(i32, i32); 4] = [(0, 0), (4, 0), (0, 4), (3, 5)];
 
