@@ -6,7 +6,6 @@ ghost use lib.ListN.{length, getD};
 ghost use Rattle.grid.specs.Block.{byRows, drawn};
 ghost use Rattle.grid.specs.Run.{put, from, narrow};
 ghost use Rattle.samples.specs.Tap.{half, mean};
-use blend::average;
 use grid::lanes;
 use samples::taps;
 

@@ -12,7 +12,7 @@ ghost use Rattle.luma.specs.Luma.{predictedLuma};
 ghost use Rattle.luma.specs.Average.{rowRefusal, rowMean};
 ghost use Rattle.chroma.specs.Chroma.{predictedChroma};
 ghost use Rattle.margins.specs.Margin.{expanded};
-ghost use Rattle.padded.specs.Padded.{paddedLuma, paddedChroma};
+ghost use Rattle.window.specs.Padded.{paddedLuma, paddedChroma};
 ghost use Rattle.lent.specs.Lent.{Predicted};
 ghost use Rattle.planes.specs.Planes.{wide, paddedAt, acrossAt, downAt, centreAt, paddedPlane, padRefusal, buildRefusal};
 ghost use Rattle.served.specs.Served.{blockRefusal};

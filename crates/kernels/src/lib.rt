@@ -1,4 +1,3 @@
-// Luma blocks over rows of any stride: full samples, the centre, and the sixteen phases of them and of half samples.
-pub mod centre;
+// Luma blocks over rows of any stride: full samples, and the fifteen other phases by their anchors.
 pub mod full;
 pub mod predict;

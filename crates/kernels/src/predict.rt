@@ -6,7 +6,6 @@ ghost use Rattle.grid.specs.Block.{drawn};
 ghost use Rattle.samples.specs.Tap.{mean};
 ghost use Rattle.samples.specs.Phase.{anchor, lumaSample};
 ghost use Rattle.samples.specs.Kernel.{windowAt};
-use crate::centre;
 use samples::phases;
 use samples::phases::Anchor;
 

@@ -7,7 +7,7 @@ use lib.Dec.{T, ltb}
 use borrow.Author.Tests.{le-ltb}
 use Rattle.place.specs.Refusal.{lowest, paddedBlockRefusal}
 use Rattle.place.proofs.Refused.{numbered, miss, none}
-use Rattle.padded.specs.Padded.{slicesRefusal}
+use Rattle.window.specs.Padded.{slicesRefusal}
 
 -- tests of which none holds change no answer
 idle : (a b : List (ℕ × Bool)) → T (numbered a) → 0 ≡ lowest b → lowest (a ++ b) ≡ lowest a

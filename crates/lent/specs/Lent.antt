@@ -7,7 +7,7 @@ use lib.ListN.{length}
 use Rattle.grid.specs.Block.{drawn}
 use Rattle.place.specs.Refusal.{paddedBlockRefusal}
 use Rattle.place.specs.Outcome.{after}
-use Rattle.padded.specs.Padded.{paddedLuma}
+use Rattle.window.specs.Padded.{paddedLuma}
 
 -- t, a, b and out at the call, and t′, a′, b′ and out′ at the return
 pub record Predicted (t a b padded : List ℕ) (stride pad pw ph x0 y0 bw bh : ℕ) (mvx mvy : ℤ) (out t′ a′ b′ out′ : List ℕ) (r : ℕ) : Type 0 where

@@ -6,7 +6,6 @@ ghost use Rattle.place.specs.Refusal.{plainBlockRefusal};
 ghost use Rattle.place.specs.Outcome.{after};
 ghost use Rattle.luma.specs.Luma.{predictedLuma};
 ghost use Rattle.luma.specs.Average.{rowRefusal, rowMean};
-use blend::average;
 use place::coords;
 use place::limits;
 

@@ -11,7 +11,7 @@ use Rattle.place.specs.Place.{floorZ, lumaPlace, chromaPlace, phase}
 use Rattle.place.proofs.Reach.{part-agrees, written}
 use Rattle.samples.proofs.Reach.{luma-six, chroma-four}
 use Rattle.margins.specs.declared.Geometry.{Geometry}
-use Rattle.padded.specs.Padded.{lumaDirect, chromaDirect, readAt, paddedLuma, paddedChroma}
+use Rattle.window.specs.Padded.{lumaDirect, chromaDirect, readAt, paddedLuma, paddedChroma}
 use Rattle.padded.proofs.mc_luma_padded.Reads as luma
 use Rattle.padded.proofs.mc_luma_padded_slices.Reads as slices
 use Rattle.padded.proofs.mc_chroma_padded.Reads as chroma

@@ -8,7 +8,6 @@ ghost use Rattle.place.specs.Outcome.{after};
 ghost use Rattle.samples.specs.Tap.{half, centre};
 ghost use Rattle.samples.specs.Kernel.{windowAt};
 ghost use Rattle.planes.specs.Planes.{wide, paddedAt, acrossAt, downAt, centreAt, paddedPlane, padRefusal, buildRefusal};
-use kernels::centre;
 use place::coords;
 use place::limits;
 use place::tiles;

@@ -14,7 +14,7 @@ use Rattle.samples.specs.Phase.{Window, lumaSample}
 use Rattle.margins.specs.declared.Geometry.{Geometry}
 use Rattle.luma.specs.Luma.{predictedLuma}
 use Rattle.luma.proofs.mc_luma.Reads as plain
-use Rattle.padded.specs.Padded.{lumaDirect, readAt, paddedLuma}
+use Rattle.window.specs.Padded.{lumaDirect, readAt, paddedLuma}
 use Rattle.padded.proofs.mc_luma_padded.Reads as padded
 use Rattle.padded.proofs.mc_luma_padded_slices.Reads as slices
 use Rattle.padded.proofs.Only.{Block, Lent, out}

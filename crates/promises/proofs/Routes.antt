@@ -17,8 +17,8 @@ use Rattle.samples.proofs.Reach.{luma-six}
 use Rattle.margins.specs.declared.Geometry.{Geometry}
 use Rattle.luma.specs.Luma.{predictedLuma}
 use Rattle.luma.proofs.mc_luma.Reads as plain
-use Rattle.padded.specs.Padded.{paddedLuma, slicesRefusal}
-use Rattle.padded.proofs.Standard.{luma-standard}
+use Rattle.window.specs.Padded.{paddedLuma, slicesRefusal}
+use Rattle.window.proofs.Standard.{luma-standard}
 use Rattle.padded.proofs.mc_luma_padded.Reads as padded
 use Rattle.padded.proofs.mc_luma_padded_slices.Reads as slices
 use Rattle.padded.proofs.Only.{Block, Lent, out}

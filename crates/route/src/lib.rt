@@ -7,7 +7,6 @@ ghost use Rattle.grid.specs.Block.{drawn};
 ghost use Rattle.place.specs.Near.{nearArea};
 ghost use Rattle.kernels.specs.Width.{copied};
 ghost use Rattle.route.specs.Area.{lumaNear, chromaNear, Lies};
-use blend::bilinear;
 use kernels::full;
 use kernels::predict;
 use place::coords;

@@ -6,7 +6,6 @@ ghost use lib.ListN.{length, getD};
 ghost use Rattle.grid.specs.Block.{drawn};
 ghost use Rattle.grid.specs.Run.{put, narrow};
 ghost use Rattle.samples.specs.Tap.{mean};
-use blend::average;
 use grid::lanes;
 use kernels::full;
 

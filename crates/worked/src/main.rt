@@ -140,7 +140,8 @@ fn vector(name: &[u8], a: MvNeighbor, b: MvNeighbor, c: MvNeighbor, cur_ref: i32
     line(name, m.refusal, signed::to_bits(m.mv.y));
 }
 
-fn main() {
+// The worked row, and what the taps make of steps.
+fn worked_rows() {
     let r = [10, 20, 30, 40, 50, 60];
     luma(b"R at 2 by (2,0)", &r, 6, 1, 2, 0, 2, 0);
     luma(b"R at 2 by (1,0)", &r, 6, 1, 2, 0, 1, 0);
@@ -168,6 +169,10 @@ fn main() {
         2,
         0,
     );
+}
+
+// What rounds up, and what is not rounded between the passes.
+fn rise_and_dot() {
     let rise = [0, 0, 0, 1, 1, 1];
     luma(b"a rise by (2,0)", &rise, 6, 1, 2, 0, 2, 0);
     luma(b"a rise by (1,0)", &rise, 6, 1, 2, 0, 1, 0);
@@ -185,11 +190,18 @@ fn main() {
         2,
     );
     luma(b"a dot by (2,1)", &dot, 6, 6, 2, 2, 2, 1);
-    every_phase(77);
+}
+
+// Chroma, and blocks that hang over.
+fn places() {
     chroma(b"chroma by (4,4)", 4, 4);
     chroma(b"chroma by (1,0)", 1, 0);
     edges(b"edge count by (-4,0)", -4, 0);
     edges(b"edge count by (0,0)", 0, 0);
+}
+
+// Where margins are read, and where the picture is clamped.
+fn margins_read() {
     unfilled(b"margins at 255, column -31: clamped", -124);
     unfilled(b"margins at 255, column -30: in place", -120);
     unfilled(b"margins at 255, column 29: in place", 116);
@@ -198,13 +210,26 @@ fn main() {
     filled(b"margins filled, column -30", -120);
     filled(b"margins filled, column 29", 116);
     filled(b"margins filled, column 30", 120);
+}
+
+// Which blocks the half-sample planes serve.
+fn half_planes() {
     from_planes(b"half-sample planes by (126,0): served", 126);
     from_planes(b"half-sample planes by (-126,0): served", -126);
     from_planes(b"half-sample planes by (130,0): not served", 130);
     from_planes(b"half-sample planes by (-130,0): not served", -130);
+}
+
+// One refusal of each kind that a small picture can have.
+fn refusals() {
+    let r = [10, 20, 30, 40, 50, 60];
     luma(b"side 0", &r, 0, 1, 0, 0, 0, 0);
     luma(b"source one short", &r, 7, 1, 0, 0, 0, 0);
     luma(b"position 65536", &r, 6, 1, 65536, 0, 0, 0);
+}
+
+// The vector of a block from its neighbours.
+fn predicted_vectors() {
     let a = neighbour(true, 4, 8, 0);
     let b = neighbour(true, 0, 0, 1);
     let c = neighbour(true, 12, -4, 1);
@@ -216,4 +241,15 @@ fn main() {
     let absent = neighbour(false, 0, 0, -1);
     vector(b"intra B, C absent, current 1", a, intra, absent, 1);
     vector(b"B and C absent, current 1", a, absent, absent, 1);
+}
+
+fn main() {
+    worked_rows();
+    rise_and_dot();
+    every_phase(77);
+    places();
+    margins_read();
+    half_planes();
+    refusals();
+    predicted_vectors();
 }

@@ -5,7 +5,7 @@ use mathlib.Core.List.{[], _∷_, _++_}
 use Prim.Native.Nat.{ℕ}
 use Rattle.place.specs.Refusal.{short, lowest, paddedTests, blockTests, paddedBlockRefusal}
 use Rattle.place.proofs.Refused.{refusing, first, second}
-use Rattle.padded.specs.Padded.{slicesRefusal}
+use Rattle.window.specs.Padded.{slicesRefusal}
 use Rattle.padded.proofs.check_lent.Statement.{statement}
 use Rattle.padded.proofs.check_lent.Tie as tie
 

@@ -8,7 +8,7 @@ use mir.Facts.{toZ-ofZ}
 use borrow.Author.Tests.{ltb-false}
 use Rattle.place.specs.Refusal.{short, paddedTests, blockTests, paddedBlockRefusal}
 use Rattle.place.proofs.Refused.{PaddedOk, BlockOk, padded-block-ok, split-zero, passed, kept}
-use Rattle.padded.specs.Padded.{slicesRefusal}
+use Rattle.window.specs.Padded.{slicesRefusal}
 use Rattle.padded.proofs.mc_luma_padded_slices.Statement.{statement}
 use Rattle.padded.proofs.mc_luma_padded_slices.Tie as tie
 

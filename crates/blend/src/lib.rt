@@ -1,3 +1,0 @@
-// Samples blended: the average of two, and the weighted average of four that chroma has.
-pub mod average;
-pub mod bilinear;
