@@ -3,10 +3,7 @@ ghost use mathlib.Core.Path.{_≡_};
 ghost use Prim.Native.Nat.{_<_};
 ghost use lib.ListN.{length};
 
-mod calls;
-mod half;
 mod say;
-mod text;
 
 // What every output holds before a call.
 const FILL: u8 = 165;
@@ -91,19 +88,19 @@ fn stopped(st: State, what: &[u8]) -> State {
 // At the next line.
 fn moved(st: State, s: &[u8], at: usize) -> State {
     let mut next = st;
-    next.at = text::past(s, at);
+    next.at = lists::past(s, at);
     next.line = std::num::wrapping_add_usize(st.line, 1);
     next
 }
 
 // A line `P place=bytes`: a picture, whose place among the pictures' bytes is its number.
 fn picture(s: &[u8], st: State, pictures: &mut [u8]) -> State {
-    let n = text::read_numbers(s, text::past(s, st.at));
-    if !n.ok | (n.list[0] != st.pictures) | (text::byte_at(s, n.next) != b'=') {
+    let n = lists::read_numbers(s, lists::past(s, st.at));
+    if !n.ok | (n.list[0] != st.pictures) | (lists::byte_at(s, n.next) != b'=') {
         return stopped(st, b"not a picture's number");
     }
-    let r = text::read_bytes(s, text::past(s, n.next), pictures, st.pictures);
-    if !r.ok | (text::byte_at(s, r.next) != b'\n') {
+    let r = lists::read_bytes(s, lists::past(s, n.next), pictures, st.pictures);
+    if !r.ok | (lists::byte_at(s, r.next) != b'\n') {
         return stopped(st, b"not a picture's bytes");
     }
     let mut next = moved(st, s, r.next);
@@ -113,8 +110,8 @@ fn picture(s: &[u8], st: State, pictures: &mut [u8]) -> State {
 
 // The numbers of a call and of its answer.
 fn read_line(s: &[u8], at: usize) -> Line {
-    let a = text::read_numbers(s, at);
-    let e = text::read_numbers(s, text::past(s, a.next));
+    let a = lists::read_numbers(s, at);
+    let e = lists::read_numbers(s, lists::past(s, a.next));
     let call = a.list;
     let answer = e.list;
     let known = (0 < call[0]) & (call[0] <= calls::LAST);
@@ -122,7 +119,7 @@ fn read_line(s: &[u8], at: usize) -> Line {
         call: call,
         answer: answer,
         next: e.next,
-        ok: a.ok & e.ok & known & (text::byte_at(s, a.next) == b'='),
+        ok: a.ok & e.ok & known & (lists::byte_at(s, a.next) == b'='),
     }
 }
 
@@ -134,11 +131,11 @@ fn untouched() -> [u8; 66560]
 }
 
 // The bytes of an output that the line lists after a `|`; none where it lists no more outputs.
-fn read_output(s: &[u8], at: usize, want: &mut [u8]) -> text::Read {
-    if text::byte_at(s, at) == b'|' {
-        return text::read_bytes(s, text::past(s, at), want, 0);
+fn read_output(s: &[u8], at: usize, want: &mut [u8]) -> lists::Read {
+    if lists::byte_at(s, at) == b'|' {
+        return lists::read_bytes(s, lists::past(s, at), want, 0);
     }
-    text::Read {
+    lists::Read {
         filled: 0,
         next: at,
         ok: true,
@@ -152,7 +149,7 @@ fn judge_output(s: &[u8], at: usize, out: &[u8], room: usize) -> Judged {
     Judged {
         next: r.next,
         ok: r.ok & (r.filled <= room),
-        same: runs::same_bytes(text::cut(out, 0, room), text::cut(&want, 0, room)),
+        same: runs::same_bytes(lists::cut(out, 0, room), lists::cut(&want, 0, room)),
     }
 }
 
@@ -196,7 +193,7 @@ fn judge(s: &[u8], line: Line, pictures: &[u8]) -> Judged {
 fn counted(st: State, kind: usize, same: bool) -> State {
     let mut next = st;
     next.done = std::num::wrapping_add_usize(st.done, 1);
-    if kind < text::MOST {
+    if kind < lists::MOST {
         next.done_by[kind] = std::num::wrapping_add_usize(next.done_by[kind], 1);
         if !same {
             say::differs(st.line, kind);
@@ -208,7 +205,7 @@ fn counted(st: State, kind: usize, same: bool) -> State {
 }
 
 fn step(s: &[u8], st: State, pictures: &mut [u8]) -> State {
-    if text::byte_at(s, st.at) == b'P' {
+    if lists::byte_at(s, st.at) == b'P' {
         return picture(s, st, pictures);
     }
     let line = read_line(s, st.at);
@@ -217,7 +214,7 @@ fn step(s: &[u8], st: State, pictures: &mut [u8]) -> State {
     }
     let call = line.call;
     let j = judge(s, line, pictures);
-    if !j.ok | (text::byte_at(s, j.next) != b'\n') {
+    if !j.ok | (lists::byte_at(s, j.next) != b'\n') {
         return stopped(st, b"not an output's bytes");
     }
     moved(counted(st, call[0], j.same), s, j.next)
@@ -248,7 +245,7 @@ fn report(st: State) {
 // The first line that is no comment has the number of answers, and the checksum of all that follows it.
 fn run(s: &[u8]) {
     let head = after_comments(s);
-    let n = text::read_numbers(s, head.at);
+    let n = lists::read_numbers(s, head.at);
     let count = n.list[0];
     let sum = n.list[1];
     let start = moved(head, s, n.next);

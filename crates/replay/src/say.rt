@@ -1,5 +1,4 @@
 // What the replay prints.
-use crate::calls;
 
 fn number(n: usize) {
     io::print_decimal(1, n as u64);

@@ -1,6 +1,6 @@
 // The library's calls on the numbers of a line. A source is named by its place among the pictures' bytes and by how many are lent.
-use crate::half;
-use crate::text;
+mod half;
+
 use margins::Geometry;
 use vectors::Mv;
 use vectors::MvAnswer;
@@ -218,7 +218,7 @@ pub fn only(refusal: u32) -> [usize; 24] {
 fn mc_luma(a: &[usize; 24], pictures: &[u8], out: &mut [u8]) -> u32 {
     let b = plain_block(a);
     luma::mc_luma(
-        text::cut(pictures, a[2], a[3]),
+        lists::cut(pictures, a[2], a[3]),
         a[4],
         a[5],
         b.x0,
@@ -234,7 +234,7 @@ fn mc_luma(a: &[usize; 24], pictures: &[u8], out: &mut [u8]) -> u32 {
 fn mc_chroma(a: &[usize; 24], pictures: &[u8], out: &mut [u8]) -> u32 {
     let b = plain_block(a);
     chroma::mc_chroma(
-        text::cut(pictures, a[2], a[3]),
+        lists::cut(pictures, a[2], a[3]),
         a[4],
         a[5],
         b.x0,
@@ -249,8 +249,8 @@ fn mc_chroma(a: &[usize; 24], pictures: &[u8], out: &mut [u8]) -> u32 {
 
 fn avg_row_into(a: &[usize; 24], pictures: &[u8], out: &mut [u8]) -> u32 {
     luma::avg_row_into(
-        text::cut(pictures, a[2], a[3]),
-        text::cut(pictures, a[4], a[5]),
+        lists::cut(pictures, a[2], a[3]),
+        lists::cut(pictures, a[4], a[5]),
         a[6],
         first(out, a[7]),
     )
@@ -259,7 +259,7 @@ fn avg_row_into(a: &[usize; 24], pictures: &[u8], out: &mut [u8]) -> u32 {
 // The picture is copied to the output, which is changed in place.
 fn expand_plane(a: &[usize; 24], pictures: &[u8], out: &mut [u8]) -> u32 {
     let buf = first(out, a[3]);
-    copy(text::cut(pictures, a[2], a[3]), buf);
+    copy(lists::cut(pictures, a[2], a[3]), buf);
     margins::expand_plane(buf, geometry(a))
 }
 
@@ -272,7 +272,7 @@ fn copy(from: &[u8], to: &mut [u8]) {
 fn mc_luma_padded(a: &[usize; 24], pictures: &[u8], out: &mut [u8]) -> u32 {
     let b = padded_block(a);
     padded::mc_luma_padded(
-        text::cut(pictures, a[2], a[3]),
+        lists::cut(pictures, a[2], a[3]),
         geometry(a),
         b.x0,
         b.y0,
@@ -293,7 +293,7 @@ fn mc_luma_padded_pre(a: &[usize; 24], pictures: &[u8], out: &mut [u8]) -> u32 {
         &mut tile,
         &mut p,
         &mut q,
-        text::cut(pictures, a[2], a[3]),
+        lists::cut(pictures, a[2], a[3]),
         a[4],
         a[5],
         a[6],
@@ -311,7 +311,7 @@ fn mc_luma_padded_pre(a: &[usize; 24], pictures: &[u8], out: &mut [u8]) -> u32 {
 fn mc_chroma_padded(a: &[usize; 24], pictures: &[u8], out: &mut [u8]) -> u32 {
     let b = padded_block(a);
     padded::mc_chroma_padded(
-        text::cut(pictures, a[2], a[3]),
+        lists::cut(pictures, a[2], a[3]),
         geometry(a),
         b.x0,
         b.y0,
@@ -326,8 +326,8 @@ fn mc_chroma_padded(a: &[usize; 24], pictures: &[u8], out: &mut [u8]) -> u32 {
 fn mc_chroma_padded_pair(a: &[usize; 24], pictures: &[u8], u: &mut [u8], v: &mut [u8]) -> u32 {
     let b = padded_block(a);
     padded::mc_chroma_padded_pair(
-        text::cut(pictures, a[2], a[3]),
-        text::cut(pictures, a[15], a[16]),
+        lists::cut(pictures, a[2], a[3]),
+        lists::cut(pictures, a[15], a[16]),
         geometry(a),
         b.x0,
         b.y0,
@@ -342,7 +342,7 @@ fn mc_chroma_padded_pair(a: &[usize; 24], pictures: &[u8], u: &mut [u8], v: &mut
 
 fn pad_plane(a: &[usize; 24], pictures: &[u8], out: &mut [u8]) -> u32 {
     planes::pad_plane(
-        text::cut(pictures, a[2], a[3]),
+        lists::cut(pictures, a[2], a[3]),
         a[4],
         a[5],
         a[6],
@@ -359,7 +359,7 @@ fn build_hpel_planes(
     c: &mut [u8],
 ) -> u32 {
     planes::build_hpel_planes(
-        text::cut(pictures, a[2], a[3]),
+        lists::cut(pictures, a[2], a[3]),
         a[4],
         a[5],
         a[6],

@@ -1,8 +1,8 @@
--- `replay::text::decimal` is safe and ends: it takes at most twenty digits. Assumes nothing.
+-- `lists::decimal` is safe and ends: it takes at most twenty digits. Assumes nothing.
 use borrow.Author.Needs.{needs}
 use Prim.Native.Nat.{_-_, _≤_}
-use Rattle.replay.proofs.text.decimal.Statement.{statement}
-use Rattle.replay.proofs.text.decimal.Tie as tie
+use Rattle.lists.proofs.decimal.Statement.{statement}
+use Rattle.lists.proofs.decimal.Tie as tie
 
 abbrev Inv-loop : tie.InvT-loop
 Inv-loop s from value₀ at₀ counter₀ value at counter = counter ≤ 20

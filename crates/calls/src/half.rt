@@ -1,7 +1,5 @@
 // The calls on half-sample planes. A view is answered by its length and its first four bytes.
-use crate::calls;
-use crate::calls::Block;
-use crate::text;
+use crate::Block;
 
 fn block(a: &[usize; 24]) -> Block {
     Block {
@@ -9,8 +7,8 @@ fn block(a: &[usize; 24]) -> Block {
         y0: a[8],
         bw: a[9],
         bh: a[10],
-        mvx: calls::signed_of(a[11]),
-        mvy: calls::signed_of(a[12]),
+        mvx: crate::signed_of(a[11]),
+        mvy: crate::signed_of(a[12]),
     }
 }
 
@@ -82,15 +80,15 @@ fn hpel_qpel_refs_at<'a>(
 fn beginnings(p: &[u8], q: &[u8]) -> [usize; 24] {
     let mut got = [0usize; 24];
     got[0] = p.len();
-    got[1] = text::byte_at(p, 0) as usize;
-    got[2] = text::byte_at(p, 1) as usize;
-    got[3] = text::byte_at(p, 2) as usize;
-    got[4] = text::byte_at(p, 3) as usize;
+    got[1] = lists::byte_at(p, 0) as usize;
+    got[2] = lists::byte_at(p, 1) as usize;
+    got[3] = lists::byte_at(p, 2) as usize;
+    got[4] = lists::byte_at(p, 3) as usize;
     got[5] = q.len();
-    got[6] = text::byte_at(q, 0) as usize;
-    got[7] = text::byte_at(q, 1) as usize;
-    got[8] = text::byte_at(q, 2) as usize;
-    got[9] = text::byte_at(q, 3) as usize;
+    got[6] = lists::byte_at(q, 0) as usize;
+    got[7] = lists::byte_at(q, 1) as usize;
+    got[8] = lists::byte_at(q, 2) as usize;
+    got[9] = lists::byte_at(q, 3) as usize;
     got
 }
 
@@ -169,22 +167,22 @@ fn hpel_block<'a>(
         b.bh,
         b.mvx,
         b.mvy,
-        calls::first(out, a[19]),
+        crate::first(out, a[19]),
     )
 }
 
 // The planes are cut here, once for all of the calls.
 pub fn answer(a: &[usize; 24], pictures: &[u8], out: &mut [u8]) -> [usize; 24] {
-    let f = text::cut(pictures, a[2], a[3]);
-    let h = text::cut(pictures, a[13], a[14]);
-    let v = text::cut(pictures, a[15], a[16]);
-    let c = text::cut(pictures, a[17], a[18]);
+    let f = lists::cut(pictures, a[2], a[3]);
+    let h = lists::cut(pictures, a[13], a[14]);
+    let v = lists::cut(pictures, a[15], a[16]);
+    let c = lists::cut(pictures, a[17], a[18]);
     let kind = a[0];
     match kind {
-        calls::HPEL_REF_AT => hpel_ref_at(a, f, h, v, c),
-        calls::HPEL_QPEL_REFS_AT => hpel_qpel_refs_at(a, f, h, v, c),
-        calls::HPEL_REF => hpel_ref(a, f, h, v, c),
-        calls::HPEL_QPEL_REFS => hpel_qpel_refs(a, f, h, v, c),
-        _ => calls::only(hpel_block(a, f, h, v, c, out)),
+        crate::HPEL_REF_AT => hpel_ref_at(a, f, h, v, c),
+        crate::HPEL_QPEL_REFS_AT => hpel_qpel_refs_at(a, f, h, v, c),
+        crate::HPEL_REF => hpel_ref(a, f, h, v, c),
+        crate::HPEL_QPEL_REFS => hpel_qpel_refs(a, f, h, v, c),
+        _ => crate::only(hpel_block(a, f, h, v, c, out)),
     }
 }

@@ -1,10 +1,10 @@
--- `replay::text::read_numbers` is safe and ends: k counts up to 24. Assumes nothing.
+-- `lists::read_numbers` is safe and ends: k counts up to 24. Assumes nothing.
 use borrow.Author.Needs.{needs}
 use mathlib.Core.Path.{_≡_}
 use Prim.Native.Nat.{_-_, _≤_}
 use lib.ListN.{length}
-use Rattle.replay.proofs.text.read_numbers.Statement.{statement}
-use Rattle.replay.proofs.text.read_numbers.Tie as tie
+use Rattle.lists.proofs.read_numbers.Statement.{statement}
+use Rattle.lists.proofs.read_numbers.Tie as tie
 
 abbrev Inv-loop : tie.InvT-loop
 Inv-loop s from list₀ at₀ k₀ list at k = (k ≤ 24) × (length list ≡ 24)
