@@ -78,9 +78,15 @@ impl Refusal {
         match (number, Refusal::from_number(number)) {
             (0, _) => Ok(()),
             (_, Some(refusal)) => Err(refusal),
-            (_, None) => panic!("the archive answered {number}, which is no refusal known here"),
+            (_, None) => unknown(number),
         }
     }
+}
+
+/// Apart from the calls, which would else keep the number in memory for the message.
+#[cold]
+fn unknown(number: u32) -> ! {
+    panic!("the archive answered {number}, which is no refusal known here")
 }
 
 impl fmt::Display for Refusal {

@@ -1,6 +1,6 @@
 -- Lookups and blocks of half-sample planes: where they lie, and what they are. Assumes nothing.
 use mathlib.Core.Path.{_≡_, refl, sym, ap, ap₂, _∙_}
-use mathlib.Core.Bool.{Bool, true, false, false≢true, cond, _||_}
+use mathlib.Core.Bool.{Bool, true, false, false≢true, cond, not, _||_, _&&_}
 use mathlib.Core.List.{List, [], _∷_}
 use Prim.Native.Nat.{ℕ, zero, suc, _+_, _*_, _-_, _/_, _%_, _^_, _≤_, _<_}
 use native.Mathlib.Nat.{add-assoc, mul-le-mul-right}
@@ -10,9 +10,12 @@ use lib.IntN.{ℤ, subℕ}
 use lib.ListN.{length, take, drop, getD, length-drop}
 use lib.Seq.{take-all, getD-drop}
 use lib.Signed.{mag}
+use borrow.Author.Tests.{ltb-true}
+use denote.Ref.{RefT, now}
 use Rattle.signed.specs.Lift.{up}
 use Rattle.signed.proofs.Diff.{is-pos}
 use Rattle.grid.specs.Block.{drawn}
+use Rattle.grid.specs.Run.{narrow}
 use Rattle.grid.proofs.Fill.{drawn-ext}
 use Rattle.place.specs.Outcome.{after}
 use Rattle.place.specs.Place.{lumaPlace, phase}
@@ -20,13 +23,13 @@ use Rattle.place.proofs.Refused.{kept}
 use Rattle.planes.specs.Planes.{wide}
 use Rattle.samples.specs.declared.phases.Anchor.{Anchor}
 use Rattle.samples.specs.declared.phases.Phase.{Phase}
-use Rattle.samples.specs.Phase.{pair, phases, phaseOf}
+use Rattle.samples.specs.Phase.{at, pair, phases, phaseOf}
 use Rattle.samples.specs.Tap.{mean}
-use Rattle.samples.proofs.Reach.{Near, mean-same}
+use Rattle.samples.proofs.Reach.{Near, both, mean-same}
 use Rattle.hpel.specs.declared.HpelAt.{HpelAt}
 use Rattle.hpel.specs.declared.HpelPair.{HpelPair}
 use Rattle.served.proofs.Laws.{LentOk, PlaceOk, Ok, place-is}
-use Rattle.served.specs.Served.{atQuarter}
+use Rattle.served.specs.Served.{atQuarter, badWidth}
 use Rattle.hpel.specs.Lookup.{firstAt, inOrder, oneAt, twoAt, refAt, qpelAt}
 use Rattle.hpel.specs.Reading.{planeOf, refTail, qpelTails, anchorAt, hpelSample}
 
@@ -35,7 +38,46 @@ pub first-asks : (f h v c w ht pad x0 y0 bw bh : ℕ) {m n x y : ℕ} → m ≡ 
     → (2 ^ 29 ≤ m + pad) × (2 ^ 29 ≤ n + pad) × (m + pad ≤ 2 ^ 31) × (n + pad ≤ 2 ^ 31) × (wide w pad ≤ 8448) × (a .dx ≤ 1) × (a .dy ≤ 1)
 first-asks f h v c w ht pad x0 y0 bw bh e g k a near = omega (arith, e, g, k, near)
 
+-- ---- the kinds of anchors are four
+
+abbrev allFour : List Phase → Bool
+allFour [] = true
+allFour (x ∷ rest) = (ltb (x .p .kind) 4 && ltb (x .q .kind) 4) && allFour rest
+
+entry-four : (l : List Phase) → allFour l ≡ true → (n : ℕ) → let f = getD l n (pair (at 0 0 0) (at 0 0 0)) in (f .p .kind < 4) × (f .q .kind < 4)
+entry-four [] e n = (omega arith, omega arith)
+entry-four (x ∷ rest) e zero =
+    let t = both (ltb (x .p .kind) 4) (ltb (x .q .kind) 4) (both (ltb (x .p .kind) 4 && ltb (x .q .kind) 4) (allFour rest) e .0) in (ltb-true _ _ (t .0), ltb-true _ _ (t .1))
+entry-four (x ∷ rest) e (suc n) = entry-four rest (both (ltb (x .p .kind) 4 && ltb (x .q .kind) 4) (allFour rest) e .1) n
+
+table-four : allFour phases ≡ true
+unfolding phases
+table-four = refl
+
+pub phase-four : (fx fy : ℕ) → (phaseOf fx fy .p .kind < 4) × (phaseOf fx fy .q .kind < 4)
+phase-four fx fy = entry-four phases table-four (fy * 4 + fx)
+
+-- ---- the widths of a quarter phase
+
+one-of-three : (a b c : Bool) → not (a || b || c) ≡ false → (b || a) || c ≡ true
+one-of-three true true c e = refl
+one-of-three true false c e = refl
+one-of-three false true c e = refl
+one-of-three false false true e = refl
+one-of-three false false false e = absurd (false≢true (sym e))
+
+pub averaged-width : (bw : ℕ) {q : Bool} → q ≡ true → q && badWidth bw ≡ false → narrow bw || eqb bw 16 ≡ true
+averaged-width bw e g = one-of-three (eqb bw 4) (eqb bw 8) (eqb bw 16) (ap (λ (t : Bool). t && badWidth bw) (sym e) ∙ g)
+
 -- ---- planes, and where a block lies in them
+
+-- the plane of a number below 4, by its place in an array
+pub picked : (f h v c d : RefT (List ℕ)) (n : ℕ) → n < 4 → now (getD (f ∷ h ∷ v ∷ c ∷ []) n d) ≡ planeOf (now f) (now h) (now v) (now c) n
+picked f h v c d zero b = refl
+picked f h v c d (suc zero) b = refl
+picked f h v c d (suc (suc zero)) b = refl
+picked f h v c d (suc (suc (suc zero))) b = refl
+picked f h v c d (suc (suc (suc (suc n)))) b = absurd (omega arith)
 
 pub plane-last : (f h v c : List ℕ) (n : ℕ) → 2 < n → planeOf f h v c n ≡ c
 plane-last f h v c zero b = absurd (omega arith)

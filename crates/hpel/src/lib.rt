@@ -278,6 +278,8 @@ pub fn hpel_block<'a>(
     let fx = coords::luma_phase(mvx);
     let fy = coords::luma_phase(mvy);
     let k = phases::phase_at(fx, fy);
+    // Chosen by their place in an array, each is one load.
+    let planes = [f, h, v, c];
     let p = k.p;
     let q = k.q;
     let pw = cw + 2 * pad;
@@ -286,14 +288,12 @@ pub fn hpel_block<'a>(
     let i = first_at(p, pw, x, y);
     if served::at_quarter(fx, fy) {
         let j = first_at(q, pw, x, y);
-        // Sixteen and the spare sample lie in each row.
-        let wide = x + 17 <= pw + coords::LUMA_BASE;
-        let a = tail(choose(f, h, v, c, p.kind as u32), i);
-        let b = tail(choose(f, h, v, c, q.kind as u32), j);
-        rows::average_block(wide, a, b, pw, bw, bh, out);
+        let a = tail(planes[p.kind as usize], i);
+        let b = tail(planes[q.kind as usize], j);
+        rows::average_block(a, b, pw, bw, bh, out);
         return limits::DONE;
     }
     // Full and half phases name one anchor twice.
-    rows::copy_block(choose(f, h, v, c, p.kind as u32), i, pw, bw, bh, out);
+    rows::copy_block(planes[p.kind as usize], i, pw, bw, bh, out);
     limits::DONE
 }

@@ -1,9 +1,9 @@
 -- The tests of the half-sample planes in the code's unsigned places: each test, and what an answer of 0 tells. Assumes nothing.
 use mathlib.Core.Path.{_≡_, refl, sym, ap, ap₂, _∙_}
-use mathlib.Core.Bool.{Bool, not, _&&_}
+use mathlib.Core.Bool.{Bool, true, false, not, _&&_}
 use mathlib.Core.List.{List, [], _∷_, _++_}
-use mathlib.Core.Logic.{⊎-elim}
-use Prim.Native.Nat.{ℕ, _+_, _*_, _-_, _/_, _^_, _≤_, _<_}
+use mathlib.Core.Logic.{_⊎_, inl, inr, ⊎-elim}
+use Prim.Native.Nat.{ℕ, _+_, _*_, _-_, _/_, _%_, _^_, _≤_, _<_}
 use native.Mathlib.Omega.{arith}
 use lib.Dec.{ltb}
 use lib.IntN.{ℤ, pos, subℕ, _+ℤ_}
@@ -15,7 +15,8 @@ use Rattle.signed.proofs.Linear.{diff, linear, diff-same}
 use Rattle.place.specs.Place.{lumaPlace, phase}
 use Rattle.place.specs.Refusal.{short, lowest}
 use Rattle.place.proofs.CoordLaws.{luma-up}
-use Rattle.place.proofs.Refused.{miss, first, none, second, split-zero, passed, both-inside, both-below}
+use Rattle.place.proofs.Refused.{hit, miss, first, none, second, split-zero, passed, both-inside, both-below}
+use Rattle.place.proofs.Wraps.{wrapped}
 use Rattle.planes.specs.Planes.{wide}
 use Rattle.served.specs.Served.{atFull, atQuarter, badWidth, before, beyond, lentTests, placeTests, refRefusal, qpelRefusal, blockRefusal}
 
@@ -58,6 +59,36 @@ up-tests u pw ph bw bh x0 y0 pad mvx mvy {x} {y} p q ex ey =
     let t = y + pad in
     sym (λ i. (6, u) ∷ (6, before-is s (2 ^ 29) i) ∷ (6, before-is t (2 ^ 29) i) ∷ (6, beyond-is s (2 ^ 29) bw pw i) ∷ (6, beyond-is t (2 ^ 29) bh ph i) ∷ [])
     ∙ ap₂ (placeTests u pw ph bw bh) (place-is x0 mvx pad p ex) (place-is y0 mvy pad q ey)
+
+-- ---- one comparison tests an axis at both ends: r is x less 2^29, modulo 2^64
+
+module _ (n b x r : ℕ) (h : r < 2 ^ 64) (e : (r + 2 ^ 29) % 2 ^ 64 ≡ x) where
+  out-of : n - b ≤ r → (x < 2 ^ 29) ⊎ (n + 2 ^ 29 < x + b + 1)
+  out-of k = ⊎-elim (λ (l : r + 2 ^ 29 ≡ x). inr (omega arith)) (λ (l : r + 2 ^ 29 ≡ x + 2 ^ 64). inl (omega arith)) (wrapped (2 ^ 29) x r (omega arith) h e)
+
+  within : n < 2 ^ 63 → r < n - b → (ltb x (2 ^ 29) ≡ false) × (ltb (n + 2 ^ 29) (x + b + 1) ≡ false)
+  within s k = (le-ltb x (2 ^ 29) (omega arith), le-ltb (n + 2 ^ 29) (x + b + 1) (omega arith))
+
+-- a test of the same number, whether it held or not
+also : (n : ℕ) (t : Bool) (rest : List (ℕ × Bool)) → n ≡ lowest rest → n ≡ lowest ((n, t) ∷ rest)
+unfolding lowest
+also n true rest e = refl
+also n false rest e = e
+
+module _ (u : Bool) (pw ph bw bh x y rx ry : ℕ) (hx : rx < 2 ^ 64) (hy : ry < 2 ^ 64) (ex : (rx + 2 ^ 29) % 2 ^ 64 ≡ x) (ey : (ry + 2 ^ 29) % 2 ^ 64 ≡ y) where
+  pub out-across : pw - bw ≤ rx → 6 ≡ lowest (upTests u pw ph bw bh x y)
+  out-across k =
+      also _ _ _ (⊎-elim (λ (l : x < 2 ^ 29). hit _ (lt-ltb _ _ l)) (λ (l : pw + 2 ^ 29 < x + bw + 1). also _ _ _ (also _ _ _ (hit _ (lt-ltb _ _ l)))) (out-of pw bw x rx hx ex k))
+
+  pub out-down : ph - bh ≤ ry → 6 ≡ lowest (upTests u pw ph bw bh x y)
+  out-down k =
+      also _ _ _ (also _ _ _ (⊎-elim (λ (l : y < 2 ^ 29). hit _ (lt-ltb _ _ l)) (λ (l : ph + 2 ^ 29 < y + bh + 1). also _ _ _ (also _ _ _ (hit _ (lt-ltb _ _ l)))) (out-of ph bh y ry hy ey k)))
+
+  pub none-out : pw < 2 ^ 63 → ph < 2 ^ 63 → u ≡ false → rx < pw - bw → ry < ph - bh → 0 ≡ lowest (upTests u pw ph bw bh x y)
+  none-out s t o k l =
+      let a = within pw bw x rx hx ex s k in
+      let b = within ph bh y ry hy ey t l in
+      miss 6 _ o (miss 6 _ (a .0) (miss 6 _ (b .0) (miss 6 _ (a .1) (miss 6 _ (b .1) none))))
 
 -- the phase's test by another name
 pub same-test : {m : ℕ} {s t : Bool} (pw ph bw bh : ℕ) (px py : ℤ) → m ≡ lowest (placeTests s pw ph bw bh px py) → s ≡ t → m ≡ lowest (placeTests t pw ph bw bh px py)
@@ -131,8 +162,6 @@ place-ok u pw ph bw bh x y e =
     let p5 = passed _ _ _ (p4 .1) in
     record { left = ltb-false _ _ (p2 .0); above = ltb-false _ _ (p3 .0); right = ltb-false _ _ (p4 .0); below = ltb-false _ _ (p5 .0) }
 
--- what `first_at` requires
-
 module _ (f h v c w ht pad x0 y0 bw bh : ℕ) where
   abbrev lent : List (ℕ × Bool)
   lent = lentTests f h v c w ht pad x0 y0 bw bh
@@ -182,6 +211,11 @@ module _ (f h v c w ht pad x0 y0 bw bh : ℕ) where
         let t = split-zero (roomy out) (at u) tt (s .0) in
         let r = split-zero lent ((5, short out (bw * bh)) ∷ []) tt (t .0) in
         ((r .0, t .1), ltb-false _ _ (passed _ _ _ (r .1) .0))
+
+    pub block-width : (out : ℕ) → 0 ≡ blockRefusal f h v c w ht pad x0 y0 bw bh mvx mvy out → atQuarter (phase mvx 4) (phase mvy 4) && badWidth bw ≡ false
+    unfolding blockRefusal lentTests placeTests
+    block-width out e =
+        passed _ _ _ (split-zero (roomy out ++ at (atFull (phase mvx 4) (phase mvy 4))) ((6, atQuarter (phase mvx 4) (phase mvy 4) && badWidth bw) ∷ []) tt e .1) .0
 
     abbrev pub Ok : Type 0
     Ok = LentOk f h v c w ht pad x0 y0 bw bh

@@ -62,7 +62,7 @@ check-block-spec =
     let o = k .before .before .before .before in
     first _ _ _ (room-then _ _ _ _ _ _ _ _ _ _ _ _ _ _ (lent (o .before)) (o .if2 .left) (place k)) (c .if3 .taken))
     (λ c κs. search needs)
-    (λ c κs. search needs)
+    (λ c κs. omega (arith, ok (c .before .before .before .before .before .before .before)))
     (λ c.
     let t = c .before .before .before in
     let k = t .before in

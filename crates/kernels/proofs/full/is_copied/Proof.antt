@@ -1,21 +1,12 @@
 -- `kernels::full::is_copied` meets its contract: the word's bits are the widths, by computing each of them up to 16. Assumes nothing.
 use mathlib.Core.Path.{_≡_, refl}
-use Prim.Native.Nat.{ℕ, zero, suc, _/_, _%_, _^_, _<_}
+use Prim.Native.Nat.{ℕ, _/_, _%_, _^_}
 use native.Mathlib.Omega.{arith}
 use lib.Dec.{eqb}
+use Rattle.grid.proofs.Each.{Each, pick}
 use Rattle.kernels.specs.Width.{copied}
 use Rattle.kernels.proofs.full.is_copied.Statement.{statement}
 use Rattle.kernels.proofs.full.is_copied.Tie as tie
-
--- P of each number below k
-abbrev Each : (ℕ → Type 0) → ℕ → Type 0
-Each P zero = Unit
-Each P (suc k) = P 0 × Each (λ n. P (suc n)) k
-
-pick : (P : ℕ → Type 0) (k n : ℕ) → Each P k → n < k → P n
-pick P zero n all h = absurd (omega arith)
-pick P (suc k) zero all h = all .0
-pick P (suc k) (suc n) all h = pick (λ i. P (suc i)) k n (all .1) (omega arith)
 
 abbrev Same : ℕ → Type 0
 Same n = eqb (65812 / 2 ^ n % 2) 1 ≡ copied n
