@@ -118,16 +118,16 @@ order-near k n = go (ltb (k .q .kind) (k .p .kind))
 
 -- ---- one call
 
--- an anchor's rows lie within its plane, with as many samples as lie before the plane's last column
-rows-in : (f h v c w ht pad x0 y0 bw bh : ℕ) (mvx mvy : ℤ) → mag mvx < 2 ^ 31 → mag mvy < 2 ^ 31 → (n : ℕ) → x0 + up (2 ^ 31) mvx / 4 + pad + n + 1 ≤ wide w pad + 2 ^ 29 → (a : Anchor) → Near a
+-- an anchor's rows lie within its plane
+rows-in : (f h v c w ht pad x0 y0 bw bh : ℕ) (mvx mvy : ℤ) → mag mvx < 2 ^ 31 → mag mvy < 2 ^ 31 → (a : Anchor) → Near a
     → Ok f h v c w ht pad x0 y0 bw bh mvx mvy
-    → firstAt a (wide w pad) (lumaPlace x0 mvx pad) (lumaPlace y0 mvy pad) + (bh - 1) * wide w pad + n ≤ wide w pad * wide ht pad
-rows-in f h v c w ht pad x0 y0 bw bh mvx mvy p q n right a near k =
+    → firstAt a (wide w pad) (lumaPlace x0 mvx pad) (lumaPlace y0 mvy pad) + (bh - 1) * wide w pad + bw ≤ wide w pad * wide ht pad
+rows-in f h v c w ht pad x0 y0 bw bh mvx mvy p q a near k =
     let x = x0 + up (2 ^ 31) mvx / 4 + pad in
     let y = y0 + up (2 ^ 31) mvy / 4 + pad in
     let e : firstAt a (wide w pad) (lumaPlace x0 mvx pad) (lumaPlace y0 mvy pad) ≡ (y - 2 ^ 29 + a .dy) * wide w pad + (x - 2 ^ 29 + a .dx) =
     sym (first-up a (wide w pad) x y (k .1 .left) (k .1 .above) ∙ ap₂ (firstAt a (wide w pad)) (place-is x0 mvx pad p refl) (place-is y0 mvy pad q refl)) in
-    rw e (last-in (wide w pad) (wide ht pad) n (bh - 1) (x - 2 ^ 29 + a .dx) (y - 2 ^ 29 + a .dy) (omega (arith, k)) (omega (arith, k)))
+    rw e (last-in (wide w pad) (wide ht pad) bw (bh - 1) (x - 2 ^ 29 + a .dx) (y - 2 ^ 29 + a .dy) (omega (arith, k)) (omega (arith, k)))
 
 -- ---- lookups
 
@@ -227,21 +227,21 @@ module _ (f h v c : List ℕ) (w pad x0 y0 : ℕ) (mvx mvy : ℤ) {px py : ℤ} 
 
   -- its rows are there
   pub rows-room : (ht bw bh : ℕ) → mag mvx < 2 ^ 31 → mag mvy < 2 ^ 31 → Ok (length f) (length h) (length v) (length c) w ht pad x0 y0 bw bh mvx mvy
-      → (k : ℕ) → x0 + up (2 ^ 31) mvx / 4 + pad + k + 1 ≤ wide w pad + 2 ^ 29 → (a : Anchor) → Near a → {t : List ℕ} {i : ℕ} → Looked a t i → i + (bh - 1) * wide w pad + k ≤ length t
-  rows-room ht bw bh m n ok many right a near l =
+      → (a : Anchor) → Near a → {t : List ℕ} {i : ℕ} → Looked a t i → i + (bh - 1) * wide w pad + bw ≤ length t
+  rows-room ht bw bh m n ok a near l =
       let k = ok .0 in
       omega (
         arith,
         ap length (l .0),
         l .1 ∙ ap₂ (firstAt a (wide w pad)) ex ey,
-        rows-in (length f) (length h) (length v) (length c) w ht pad x0 y0 bw bh mvx mvy m n many right a near ok,
+        rows-in (length f) (length h) (length v) (length c) w ht pad x0 y0 bw bh mvx mvy m n a near ok,
         plane-room f h v c (wide w pad * wide ht pad) (a .kind) (k .f-room) (k .h-room) (k .v-room) (k .c-room),
       )
 
   -- and so they are in its view
   pub view-room : (ht bw bh : ℕ) → mag mvx < 2 ^ 31 → mag mvy < 2 ^ 31 → Ok (length f) (length h) (length v) (length c) w ht pad x0 y0 bw bh mvx mvy
-      → (k : ℕ) → x0 + up (2 ^ 31) mvx / 4 + pad + k + 1 ≤ wide w pad + 2 ^ 29 → (a : Anchor) → Near a → {s t : List ℕ} {i : ℕ} → Looked a t i → s ≡ drop i t → (bh - 1) * wide w pad + k ≤ length s
-  view-room ht bw bh m n ok many right a near {t = t} {i = i} l e = omega (arith, ap length e ∙ length-drop i t, rows-room ht bw bh m n ok many right a near l)
+      → (a : Anchor) → Near a → {s t : List ℕ} {i : ℕ} → Looked a t i → s ≡ drop i t → (bh - 1) * wide w pad + bw ≤ length s
+  view-room ht bw bh m n ok a near {t = t} {i = i} l e = omega (arith, ap length e ∙ length-drop i t, rows-room ht bw bh m n ok a near l)
 
   -- what was averaged, and what was copied, is the block
   module _ (out : List ℕ) (bw bh : ℕ) (k : Phase) (e : k ≡ phaseOf (phase mvx 4) (phase mvy 4)) where

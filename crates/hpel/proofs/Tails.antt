@@ -51,10 +51,6 @@ module _ (f h v c : List ℕ) (w ht pad x0 y0 bw bh : ℕ) (mvx mvy : ℤ) where
   abbrev pub view2 : List ℕ
   view2 = getD (qpelTails f h v c w ht pad x0 y0 bw bh mvx mvy) 1 []
 
-  pub two-views : qpelTails f h v c w ht pad x0 y0 bw bh mvx mvy ≡ view1 ∷ view2 ∷ []
-  unfolding qpelTails
-  two-views = refl
-
   -- where an anchor's samples begin, and its plane from there on
   abbrev first : Anchor → ℕ
   first a = firstAt a (wide w pad) (lumaPlace x0 mvx pad) (lumaPlace y0 mvy pad)
@@ -114,7 +110,7 @@ module _ (f h v c : List ℕ) (w ht pad x0 y0 bw bh : ℕ) (mvx mvy : ℤ) where
   module _ (p : mag mvx < 2 ^ 31) (q : mag mvy < 2 ^ 31) where
     some-left : Ok (length f) (length h) (length v) (length c) w ht pad x0 y0 bw bh mvx mvy → (a : Anchor) → Near a → {t : List ℕ} → t ≡ from a → t ≡ [] → ⊥
     some-left ok a near e z =
-        omega (arith, ok, ap length (sym e ∙ z), length-drop (first a) (planeOf f h v c (a .kind)), rows-room f h v c w pad x0 y0 mvx mvy refl refl ht bw bh p q ok bw (ok .1 .right) a near (refl, refl))
+        omega (arith, ok, ap length (sym e ∙ z), length-drop (first a) (planeOf f h v c (a .kind)), rows-room f h v c w pad x0 y0 mvx mvy refl refl ht bw bh p q ok a near (refl, refl))
 
     pub view-empty : EmptyWhen one view
     view-empty = (

@@ -81,8 +81,8 @@ rooms : (t : tie.After-tail2) → let a = start (first t .before) .args in let w
 rooms t =
     let k = first t .before in
     let s = start k in (
-      view-room _ _ _ _ _ _ _ _ _ _ (place k .0) (place k .1) _ _ _ (s .fits .mvx .sfits) (s .fits .mvy .sfits) (ok (served k) .0) _ (ok (served k) .0 .1 .right) _ (near (looks k) .0) (picked _ _ _ _ _ _ (four (looks k) .0), first t .first-at .ensures) (view1 t .tail .ensures),
-      view-room _ _ _ _ _ _ _ _ _ _ (place k .0) (place k .1) _ _ _ (s .fits .mvx .sfits) (s .fits .mvy .sfits) (ok (served k) .0) _ (ok (served k) .0 .1 .right) _ (near (looks k) .1) (picked _ _ _ _ _ _ (four (looks k) .1), second t .first-at2 .ensures) (t .tail2 .ensures),
+      view-room _ _ _ _ _ _ _ _ _ _ (place k .0) (place k .1) _ _ _ (s .fits .mvx .sfits) (s .fits .mvy .sfits) (ok (served k) .0) _ (near (looks k) .0) (picked _ _ _ _ _ _ (four (looks k) .0), first t .first-at .ensures) (view1 t .tail .ensures),
+      view-room _ _ _ _ _ _ _ _ _ _ (place k .0) (place k .1) _ _ _ (s .fits .mvx .sfits) (s .fits .mvy .sfits) (ok (served k) .0) _ (near (looks k) .1) (picked _ _ _ _ _ _ (four (looks k) .1), second t .first-at2 .ensures) (t .tail2 .ensures),
     )
 
 -- of a quarter phase only widths that have averages are served
@@ -155,7 +155,7 @@ hpel-block-spec =
     let k = f .before in
     let s = start k in
     let o = ok (served k) in
-    (rows-room _ _ _ _ _ _ _ _ _ _ (place k .0) (place k .1) _ _ _ (s .fits .mvx .sfits) (s .fits .mvy .sfits) (o .0) _ (o .0 .1 .right) _ (near (looks k) .0) (picked _ _ _ _ _ _ (four (looks k) .0), f .first-at .ensures), o .0 .0 .bw1, o .0 .0 .bw2, o .1))
+    (rows-room _ _ _ _ _ _ _ _ _ _ (place k .0) (place k .1) _ _ _ (s .fits .mvx .sfits) (s .fits .mvy .sfits) (o .0) _ (near (looks k) .0) (picked _ _ _ _ _ _ (four (looks k) .0), f .first-at .ensures), o .0 .0 .bw1, o .0 .0 .bw2, o .1))
     (λ c. search needs)
     (λ c.
     let r = c .before .before in
