@@ -1,4 +1,6 @@
 // The rounded average of two rows, once for every width.
+#![tactic(auto)]
+
 ghost use Rattle.std.specs.Prelude.{◌≡◌, ◌+◌, ◌≤◌, length, get_or};
 ghost use Rattle.grid.specs.Run.{put};
 ghost use Rattle.samples.specs.Tap.{mean};

@@ -1,4 +1,6 @@
 // Chroma samples: the weighted average of four, in 16 bits, eight lanes a row, and four rows at a time where the block allows it.
+#![tactic(auto)]
+
 ghost use Rattle.std.specs.Prelude.{◌≡◌, true, ℕ, ◌+◌, ◌*◌, ◌%◌, ◌≤◌, ◌<◌, length, get_or};
 ghost use Rattle.grid.specs.Block.{by_rows, drawn};
 ghost use Rattle.grid.specs.Run.{put, narrow};

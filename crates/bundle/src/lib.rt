@@ -1,4 +1,6 @@
 // The four half-sample planes and their geometry as one lent bundle. Each call takes it apart and hands its parts to the slice form.
+#![tactic(auto)]
+
 ghost use Rattle.std.specs.Prelude.{◌≡◌, length};
 ghost use Rattle.grid.specs.Block.{drawn};
 ghost use Rattle.place.specs.Outcome.{after};

@@ -1,4 +1,6 @@
 // The library's calls on the numbers of a line. A source is named by its place among the pictures' bytes and by how many are lent.
+#![tactic(auto)]
+
 mod half;
 
 use margins::Geometry;

@@ -1,4 +1,6 @@
 // The centre j: rows of unrounded sums down, then the six-tap across them; sixteen lanes a row, or two rows of eight at a time.
+#![tactic(auto)]
+
 ghost use Rattle.std.specs.Prelude.{◌≡◌, true, ℕ, ◌+◌, ◌*◌, ◌-◌, ◌/◌, ◌%◌, ◌<◌, ◌≤◌, min, length, get_or};
 ghost use Rattle.grid.specs.Block.{by_rows, drawn};
 ghost use Rattle.grid.specs.Run.{put, from, narrow};

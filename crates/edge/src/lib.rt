@@ -1,4 +1,6 @@
 // How many positions of a block lie outside the picture.
+#![tactic(auto)]
+
 ghost use Rattle.std.specs.Prelude.{◌≡◌, ◌||◌, ◌+◌, ◌*◌, ◌/◌, ◌%◌, ◌^◌, ◌≤◌, ◌<◌};
 ghost use Rattle.std.proofs.Math.IntN.{sub_ℕ};
 ghost use Rattle.edge.specs.Edge.{count, off, edge_refusal, outside_count, answer};

@@ -1,4 +1,6 @@
 // Half samples across (s is 1) and down (s is the stride), alone or averaged with others: blocks of bw by bh, sixteen lanes a row, or two rows of eight at a time.
+#![tactic(auto)]
+
 ghost use Rattle.std.specs.Prelude.{◌≡◌, true, ℕ, ◌+◌, ◌*◌, ◌-◌, ◌%◌, ◌≤◌, ◌<◌, length, get_or};
 ghost use Rattle.grid.specs.Block.{by_rows, drawn};
 ghost use Rattle.grid.specs.Run.{put, from, narrow};

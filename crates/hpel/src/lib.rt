@@ -1,4 +1,6 @@
 // Half-sample planes in use: the lookups of numbers, the views, and the block. The planes are read as lent, whatever they hold.
+#![tactic(auto)]
+
 ghost use Rattle.std.specs.Prelude.{◌≡◌, ◌+◌, ◌*◌, ◌^◌, ◌≤◌, length, drop};
 ghost use Rattle.std.proofs.Math.IntN.{sub_ℕ};
 ghost use Rattle.grid.specs.Block.{drawn};

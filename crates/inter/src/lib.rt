@@ -1,4 +1,6 @@
 // The C interface: numbers, records and byte slices, one thin call over the library's each.
+#![tactic(auto)]
+
 ghost use Rattle.std.specs.Prelude.{◌≡◌, length, min};
 ghost use Rattle.vectors.specs.Median.{median};
 ghost use Rattle.vectors.specs.Predict.{predict_answer};

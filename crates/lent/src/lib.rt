@@ -1,4 +1,6 @@
 // Records that a caller lends. Each call over one takes it apart and hands its parts to the plain form.
+#![tactic(auto)]
+
 ghost use Rattle.std.specs.Prelude.{◌≡◌};
 ghost use Rattle.lent.specs.Lent.{Predicted};
 

@@ -1,4 +1,5 @@
 // Reading the list: a place in the text goes in, and comes back with what was read there.
+#![tactic(auto)]
 
 // The most numbers that a call or an answer has.
 pub const MOST: usize = 24;

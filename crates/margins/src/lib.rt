@@ -1,4 +1,6 @@
 // Planes with margins: their geometry, and how the margins are filled.
+#![tactic(auto)]
+
 ghost use Rattle.std.specs.Prelude.{◌≡◌, ◌⊎◌, ◌+◌, ◌*◌, ◌≤◌, length, get_or};
 ghost use Rattle.grid.specs.Block.{by_rows};
 ghost use Rattle.grid.specs.Run.{put};

@@ -1,4 +1,6 @@
 // Prediction from planes with margins: what is refused, and then the block.
+#![tactic(auto)]
+
 ghost use Rattle.std.specs.Prelude.{◌≡◌, ◌≤◌, min, length};
 ghost use Rattle.grid.specs.Block.{drawn};
 ghost use Rattle.place.specs.Refusal.{padded_block_refusal};

@@ -1,4 +1,6 @@
 // Replays a list of the oracle's answers through the library's calls, and says how many differ.
+#![tactic(auto)]
+
 ghost use Rattle.std.specs.Prelude.{◌≡◌, ◌<◌, length};
 
 mod say;

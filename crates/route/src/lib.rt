@@ -1,4 +1,6 @@
 // Blocks predicted from an area of a buffer, every coordinate clamped to it: read in place where the window lies inside, else by way of a tile.
+#![tactic(auto)]
+
 ghost use Rattle.std.specs.Prelude.{◌≡◌, true, ◌+◌, ◌*◌, ◌-◌, ◌^◌, ◌≤◌, ◌<◌, length};
 ghost use Rattle.grid.specs.Block.{drawn};
 ghost use Rattle.place.specs.Near.{near_area};

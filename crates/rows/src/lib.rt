@@ -1,4 +1,6 @@
 // Blocks copied from one plane, or averaged from two, row by row at the planes' stride.
+#![tactic(auto)]
+
 ghost use Rattle.std.specs.Prelude.{◌≡◌, true, ◌||◌, ◌+◌, ◌*◌, ◌-◌, ◌≤◌, eqb, length, get_or};
 ghost use Rattle.grid.specs.Block.{drawn};
 ghost use Rattle.grid.specs.Run.{put, narrow};

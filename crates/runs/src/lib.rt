@@ -1,4 +1,6 @@
 // Whether two runs are equal.
+#![tactic(auto)]
+
 ghost use Rattle.std.specs.Prelude.{◌≡◌, true, ℕ, ◌<◌, get_or};
 
 pub fn same_bytes(a: &[u8], b: &[u8]) -> bool

@@ -1,4 +1,6 @@
 // Which blocks the half-sample planes serve: document 01's tests, in the order of the numbers.
+#![tactic(auto)]
+
 ghost use Rattle.std.specs.Prelude.{◌≡◌, ◌+◌, ◌-◌, ◌*◌, ◌^◌, ◌<◌, ◌≤◌, not};
 ghost use Rattle.place.specs.Refusal.{lowest};
 ghost use Rattle.place.specs.Place.{luma_place};

@@ -1,4 +1,6 @@
 // Vector prediction, Rec. ITU-T H.264, clause 8.4.1.3. Choosing the neighbours A, B and C is the caller's work.
+#![tactic(auto)]
+
 ghost use Rattle.std.specs.Prelude.{◌≡◌, not, ◌&&◌};
 ghost use Rattle.vectors.specs.Median.{median};
 ghost use Rattle.vectors.specs.Predict.{resolved, median_mv, chosen_mv, predicted, bad_reference, predict_answer};

@@ -1,4 +1,6 @@
 // Blocks of planes with margins, of which nothing is refused: read in place where the block's window lies inside picture plus margin, else from the interior, clamped.
+#![tactic(auto)]
+
 ghost use Rattle.std.specs.Prelude.{◌≡◌, ◌+◌, ◌*◌, ◌^◌, ◌≤◌, ◌<◌, min, length};
 ghost use Rattle.std.proofs.Math.IntN.{sub_ℕ};
 ghost use Rattle.grid.specs.Block.{drawn};

@@ -1,4 +1,6 @@
 // Document 01's cases as a run: each line is a case, the answer's number (0 done) and what the call gave. The file stdout has what the document says.
+#![tactic(auto)]
+
 ghost use Rattle.std.specs.Prelude.{◌≤◌, length};
 
 use margins::Geometry;
