@@ -9,7 +9,7 @@ ghost use Rattle.hpel.specs.Lookup.{ref_at, qpel_at};
 ghost use Rattle.hpel.specs.Reading.{contents, ref_tail, qpel_tails, hpel_sample};
 
 // f, h, v and c of a picture of cw by ch samples, with pad samples around it.
-#[derive(Drop)]
+#[derive(Clone, Copy)]
 pub struct HpelPlanes<'a> {
     pub f: &'a [u8],
     pub h: &'a [u8],

@@ -93,7 +93,7 @@ fn geometry(a: &[usize; 24]) -> Geometry {
 }
 
 // Where a block stands, how large it is, and its vector.
-#[derive(Drop)]
+#[derive(Clone, Copy)]
 pub struct Block {
     pub x0: usize,
     pub y0: usize,

@@ -8,7 +8,7 @@ ghost use Rattle.edge.specs.Edge.{count, off, edge_refusal, outside_count, answe
 use place::{coords, limits};
 
 #[repr(C)]
-#[derive(Drop)]
+#[derive(Clone, Copy)]
 pub struct Edges {
     pub refusal: u32,
     pub count: u32,

@@ -15,7 +15,7 @@ use samples::phases::{Anchor, Phase};
 
 // One plane: the refusal, the plane's number, the offset of the block's first sample in it, and the stride.
 #[repr(C)]
-#[derive(Drop)]
+#[derive(Clone, Copy)]
 pub struct HpelAt {
     pub refusal: u32,
     pub plane: u32,
@@ -25,7 +25,7 @@ pub struct HpelAt {
 
 // Two planes, which a quarter phase averages.
 #[repr(C)]
-#[derive(Drop)]
+#[derive(Clone, Copy)]
 pub struct HpelPair {
     pub refusal: u32,
     pub plane_a: u32,

@@ -9,7 +9,7 @@ use samples::phases;
 use samples::phases::Anchor;
 
 // The taps of a half anchor's first sample: where they start, and how far apart they lie.
-#[derive(Drop)]
+#[derive(Clone, Copy)]
 struct Taps {
     at: usize,
     apart: usize,

@@ -4,7 +4,7 @@
 // The most numbers that a call or an answer has.
 pub const MOST: usize = 24;
 
-#[derive(Drop)]
+#[derive(Clone, Copy)]
 pub struct Number {
     pub value: usize,
     pub next: usize,

@@ -12,7 +12,7 @@ use place::limits;
 
 // A picture of pw by ph samples inside a buffer: its first sample stands pad columns and pad rows on, in rows that start stride apart.
 #[repr(C)]
-#[derive(Drop)]
+#[derive(Clone, Copy)]
 pub struct Geometry {
     pub stride: usize,
     pub pad: usize,

@@ -11,7 +11,7 @@ use kernels::{full, predict};
 use place::{coords, tiles};
 
 // Where a window starts in the buffer, if it can be read there.
-#[derive(Drop)]
+#[derive(Clone, Copy)]
 pub struct Spot {
     pub inside: bool,
     pub at: usize,

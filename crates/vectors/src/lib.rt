@@ -19,14 +19,14 @@ pub fn median3(a: i32, b: i32, c: i32) -> i32
 }
 
 #[repr(C)]
-#[derive(Drop)]
+#[derive(Clone, Copy)]
 pub struct Mv {
     pub x: i32,
     pub y: i32,
 }
 
 #[repr(C)]
-#[derive(Drop)]
+#[derive(Clone, Copy)]
 pub struct MvNeighbor {
     pub available: bool,
     pub mv: Mv,
@@ -34,14 +34,14 @@ pub struct MvNeighbor {
 }
 
 // What a neighbour counts as.
-#[derive(Drop)]
+#[derive(Clone, Copy)]
 pub struct Resolved {
     pub mv: Mv,
     pub ref_idx: i32,
 }
 
 #[repr(C)]
-#[derive(Drop)]
+#[derive(Clone, Copy)]
 pub struct MvAnswer {
     pub refusal: u32,
     pub mv: Mv,
@@ -218,7 +218,7 @@ pub fn predict_partition_mv(
 }
 
 #[repr(C)]
-#[derive(Drop)]
+#[derive(Clone, Copy)]
 pub struct Rect {
     pub x: usize,
     pub y: usize,
@@ -227,7 +227,7 @@ pub struct Rect {
 }
 
 #[repr(C)]
-#[derive(Drop)]
+#[derive(Clone, Copy)]
 pub struct Partitions {
     pub count: usize,
     pub parts: [Rect; 4],

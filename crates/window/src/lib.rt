@@ -46,7 +46,7 @@ fn reaches(
 }
 
 // What is read of a plane with margins: where the area starts, its sides, and the block's place in it.
-#[derive(Drop)]
+#[derive(Clone, Copy)]
 pub struct Area {
     pub p: usize,
     pub w: usize,

@@ -6,4 +6,4 @@ use Rattle.vectors.proofs.bad_reference.Tie as tie
 
 pub bad_reference_spec : {M : Type 1} → statement M
 unfolding bad_reference
-bad_reference_spec = tie.close (tie.spec (λ c. simp (to_z-of_z c.ranges.cur-ref)))
+bad_reference_spec = tie.close (tie.spec (λ c. simp (to_z-of_z c.ranges.cur_ref)))
