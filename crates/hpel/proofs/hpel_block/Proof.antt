@@ -27,20 +27,20 @@ entry k = k.before.before.before.before.before.before
 answer : (k : tie.After-check-block) → let a = (entry k).args in
     k.check-block.result
     ≡ block_refusal (length a.f.now) (length a.h.now) (length a.v.now) (length a.c.now) a.cw a.ch a.pad a.x0 a.y0 a.bw a.bh a.mvx a.mvy (length a.out.now)
-answer k = let s = entry k in simp (to_z-of_z s.fits.mvx, to_z-of_z s.fits.mvy) at k.check-block.ensures
+answer k = let s = entry k in simp (to_z-of_z s.ranges.mvx, to_z-of_z s.ranges.mvy) at k.check-block.ensures
 
 -- nothing was refused
 ok : (c : tie.Else1) → let a = (entry c.before).args in
     Ok (length a.f.now) (length a.h.now) (length a.v.now) (length a.c.now) a.cw a.ch a.pad a.x0 a.y0 a.bw a.bh a.mvx a.mvy
     × (a.bw * a.bh ≤ length a.out.now)
-ok c = let s = entry c.before in block_ok _ _ _ _ _ _ _ _ _ _ _ _ _ s.fits.mvx.sfits s.fits.mvy.sfits _ (sym c.if1.false ∙ answer c.before)
+ok c = let s = entry c.before in block_ok _ _ _ _ _ _ _ _ _ _ _ _ _ s.ranges.mvx.sfits s.ranges.mvy.sfits _ (sym c.if1.false ∙ answer c.before)
 
 -- the phase's anchors, and the place
 looked : (k : tie.After-phase-at) → let a = (entry k.before.before.before.before).args in k.phase-at.result ≡ phase_of (phase a.mvx 4) (phase a.mvy 4)
 looked k =
     let f = k.before in
     let s = entry f.before.before.before in
-    k.phase-at.ensures ∙ ap₂ phase_of (simp (to_z-of_z s.fits.mvx) at f.before.luma-phase.ensures.0) (simp (to_z-of_z s.fits.mvy) at f.luma-phase2.ensures.0)
+    k.phase-at.ensures ∙ ap₂ phase_of (simp (to_z-of_z s.ranges.mvx) at f.before.luma-phase.ensures.0) (simp (to_z-of_z s.ranges.mvy) at f.luma-phase2.ensures.0)
 
 near : (k : tie.After-phase-at) → Near k.phase-at.result.p × Near k.phase-at.result.q
 near k = rw k.phase-at.ensures (phase_near _ _)
@@ -58,11 +58,11 @@ abbrev start : tie.After-luma-at2 → tie.Start
 start k = entry (served k).before
 
 spot : (k : tie.After-luma-at2) → let a = (start k).args in (k.before.luma-at.result ≡ a.x0 + up (2 ^ 31) a.mvx / 4) × (k.luma-at2.result ≡ a.y0 + up (2 ^ 31) a.mvy / 4)
-spot k = let s = start k in (simp (to_z-of_z s.fits.mvx) at k.before.luma-at.ensures.0, simp (to_z-of_z s.fits.mvy) at k.luma-at2.ensures.0)
+spot k = let s = start k in (simp (to_z-of_z s.ranges.mvx) at k.before.luma-at.ensures.0, simp (to_z-of_z s.ranges.mvy) at k.luma-at2.ensures.0)
 
 place : (k : tie.After-luma-at2) → let a = (start k).args in
     (sub_ℕ (k.before.luma-at.result + a.pad) (2 ^ 29) ≡ luma_place a.x0 a.mvx a.pad) × (sub_ℕ (k.luma-at2.result + a.pad) (2 ^ 29) ≡ luma_place a.y0 a.mvy a.pad)
-place k = let s = start k in (place_is _ _ _ s.fits.mvx.sfits (spot k).0, place_is _ _ _ s.fits.mvy.sfits (spot k).1)
+place k = let s = start k in (place_is _ _ _ s.ranges.mvx.sfits (spot k).0, place_is _ _ _ s.ranges.mvy.sfits (spot k).1)
 
 -- what was looked up of both anchors
 abbrev second : tie.After-tail2 → tie.After-first-at2
@@ -80,8 +80,8 @@ rooms : (t : tie.After-tail2) → let a = (start (first t).before).args in let w
 rooms t =
     let k = (first t).before in
     let s = start k in (
-      view_room _ _ _ _ _ _ _ _ _ _ (place k).0 (place k).1 _ _ _ s.fits.mvx.sfits s.fits.mvy.sfits (ok (served k)).0 _ (near (looks k)).0 (picked _ _ _ _ _ _ (four (looks k)).0, (first t).first-at.ensures) (view1 t).tail.ensures,
-      view_room _ _ _ _ _ _ _ _ _ _ (place k).0 (place k).1 _ _ _ s.fits.mvx.sfits s.fits.mvy.sfits (ok (served k)).0 _ (near (looks k)).1 (picked _ _ _ _ _ _ (four (looks k)).1, (second t).first-at2.ensures) t.tail2.ensures,
+      view_room _ _ _ _ _ _ _ _ _ _ (place k).0 (place k).1 _ _ _ s.ranges.mvx.sfits s.ranges.mvy.sfits (ok (served k)).0 _ (near (looks k)).0 (picked _ _ _ _ _ _ (four (looks k)).0, (first t).first-at.ensures) (view1 t).tail.ensures,
+      view_room _ _ _ _ _ _ _ _ _ _ (place k).0 (place k).1 _ _ _ s.ranges.mvx.sfits s.ranges.mvy.sfits (ok (served k)).0 _ (near (looks k)).1 (picked _ _ _ _ _ _ (four (looks k)).1, (second t).first-at2.ensures) t.tail2.ensures,
     )
 
 -- of a quarter phase only widths that have averages are served
@@ -154,7 +154,7 @@ hpel_block_spec =
     let k = f.before in
     let s = start k in
     let o = ok (served k) in
-    (rows_room _ _ _ _ _ _ _ _ _ _ (place k).0 (place k).1 _ _ _ s.fits.mvx.sfits s.fits.mvy.sfits o.0 _ (near (looks k)).0 (picked _ _ _ _ _ _ (four (looks k)).0, f.first-at.ensures), o.0.0.bw1, o.0.0.bw2, o.1))
+    (rows_room _ _ _ _ _ _ _ _ _ _ (place k).0 (place k).1 _ _ _ s.ranges.mvx.sfits s.ranges.mvy.sfits o.0 _ (near (looks k)).0 (picked _ _ _ _ _ _ (four (looks k)).0, f.first-at.ensures), o.0.0.bw1, o.0.0.bw2, o.1))
     (λ c. search rules)
     (λ c.
     let r = c.before.before in

@@ -44,6 +44,6 @@ mc_chroma_padded_pair_spec =
     let k = f.before.before.before in
     let s = entry k.before in (
       sym k.if1.false ∙ answer k.before,
-      simp (to_z-of_z s.fits.mvx, to_z-of_z s.fits.mvy) at f.chroma-pair.ensures.0,
-      simp (to_z-of_z s.fits.mvx, to_z-of_z s.fits.mvy) at f.chroma-pair.ensures.1,
+      simp (to_z-of_z s.ranges.mvx, to_z-of_z s.ranges.mvy) at f.chroma-pair.ensures.0,
+      simp (to_z-of_z s.ranges.mvx, to_z-of_z s.ranges.mvy) at f.chroma-pair.ensures.1,
     )))

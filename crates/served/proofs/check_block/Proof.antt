@@ -22,7 +22,7 @@ entry k = k.before.before.before.before.before
 phases : (k : tie.After-luma-phase2) → let a = (entry k).args in (k.before.luma-phase.result ≡ phase a.mvx 4) × (k.luma-phase2.result ≡ phase a.mvy 4)
 phases k =
     let s = entry k in
-    (simp (to_z-of_z s.fits.mvx) at k.before.luma-phase.ensures.0, simp (to_z-of_z s.fits.mvy) at k.luma-phase2.ensures.0)
+    (simp (to_z-of_z s.ranges.mvx) at k.before.luma-phase.ensures.0, simp (to_z-of_z s.ranges.mvy) at k.luma-phase2.ensures.0)
 
 place : (k : tie.After-check-place) → let a = (entry k.before.before).args in
     k.check-place.result
@@ -30,7 +30,7 @@ place : (k : tie.After-check-place) → let a = (entry k.before.before).args in
 place k =
     let f = k.before.before in
     let s = entry f in
-    same_test _ _ _ _ _ _ (simp (to_z-of_z s.fits.mvx, to_z-of_z s.fits.mvy) at k.check-place.ensures) (k.before.at-full.ensures ∙ ap₂ at_full (phases f).0 (phases f).1)
+    same_test _ _ _ _ _ _ (simp (to_z-of_z s.ranges.mvx, to_z-of_z s.ranges.mvy) at k.check-place.ensures) (k.before.at-full.ensures ∙ ap₂ at_full (phases f).0 (phases f).1)
 
 width : (k : tie.After-bad-width) → let a = (entry k.before.before.before.before.before).args in
     k.before.at-quarter.result && k.bad-width.result ≡ at_quarter (phase a.mvx 4) (phase a.mvy 4) && bad_width a.bw

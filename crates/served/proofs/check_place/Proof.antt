@@ -19,7 +19,7 @@ answers k m e =
     let s = entry k in
     let a = s.args in
     e ∙ ap lowest (up_tests_lem a.unserved (a.w + 2 * a.pad) (a.ht + 2 * a.pad) a.bw a.bh a.x0 a.y0 a.pad a.mvx a.mvy
-    s.fits.mvx.sfits s.fits.mvy.sfits (simp (to_z-of_z s.fits.mvx) at k.before.before.before.luma-at.ensures.0) (simp (to_z-of_z s.fits.mvy) at k.before.luma-at2.ensures.0))
+    s.ranges.mvx.sfits s.ranges.mvy.sfits (simp (to_z-of_z s.ranges.mvx) at k.before.before.before.luma-at.ensures.0) (simp (to_z-of_z s.ranges.mvy) at k.before.luma-at2.ensures.0))
 
 unserved : tie.Need-returns
 unfolding place_tests
