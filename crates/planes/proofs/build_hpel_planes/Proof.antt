@@ -29,7 +29,7 @@ returns-2 : tie.Need-returns
 unfolding padded_plane
 returns-2 c =
     let r = c.before.before.before.before.before.before in
-    let p = r.before.before.before.before.before.before.before in
+    let p = r.before.before.before.before.before.before in
     let k = p.before.before in
     let a = k.before.before.before.before.before.before.before.args in
     let pw = a.cw + 2 * a.pad in
@@ -59,7 +59,7 @@ build_hpel_planes_spec =
     let k = c.before in
     let a = k.before.before.before.before.before.before.before.args in
     omega (arith, (ok k).plane, last_row a.cw a.ch (ok k).plane.h1))
-    (λ c κs. let k = c.before.before.before.before.before.before.before.before in omega (arith, ok k, (ok k).plane))
+    (λ c κs. let k = c.before.before.before.before.before.before.before in omega (arith, ok k, (ok k).plane))
     (λ c. search rules)
     (λ c. search rules)
     (λ c. search rules)

@@ -26,7 +26,7 @@ inside k =
     let a = s.args in
     let g = a.g in
     let y = k.before.before.before.before in
-    area_in 0 1 (2 ^ 28) y.before.chroma_at-x.result y.chroma_at-y.result a.bw a.bh g.pw g.ph g.pad g.stride k.before.reaches-inside.ensures k.area_of-area.ensures (omega (arith, s.pre))
+    area_in 0 1 (2 ^ 28) y.before.chroma_at-x.result y.chroma_at-y.result a.bw a.bh g.pw g.ph g.pad g.stride k.before.reaches-inside.ensures k.area_of-area.ensures (omega (arith, s.requires))
 
 -- where the test held, the block lies in the area
 fits : (k : tie.After-area_of-area) → k.before.reaches-inside.result ≡ true → let a = (entry k).args in let t = k.area_of-area.result in

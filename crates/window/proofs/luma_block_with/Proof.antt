@@ -22,7 +22,7 @@ inside k =
     let a = s.args in
     let g = a.g in
     let y = k.before.before.before.before in
-    area_in 2 3 (2 ^ 29) y.before.luma_at-x.result y.luma_at-y.result a.bw a.bh g.pw g.ph g.pad g.stride k.before.reaches-whole.ensures k.area_of-at.ensures (omega (arith, s.pre))
+    area_in 2 3 (2 ^ 29) y.before.luma_at-x.result y.luma_at-y.result a.bw a.bh g.pw g.ph g.pad g.stride k.before.reaches-whole.ensures k.area_of-at.ensures (omega (arith, s.requires))
 
 -- the samples nearest to the places in the area are the definition's
 predicted : (k : tie.After-area_of-at) → let p = k.before.before in let a = (entry k).args in let g = a.g in let t = k.area_of-at.result in
