@@ -93,7 +93,7 @@ width c =
     let w = (entry s.before).args.bw in
     averaged_width w c.if-at_quarter.true
     (ap (λ (t : Bool). t && bad_width w) (c.before.at_quarter.ensures ∙ ap₂ at_quarter (simp (to_z-of_z f.mvx) at l.before.before.luma_phase-fx.ensures.0) (simp (to_z-of_z f.mvy) at l.before.luma_phase-fy.ensures.0))
-    ∙ block_width _ _ _ _ _ _ _ _ _ _ _ _ _ _ (sym s.if-no-ne-DONE.left ∙ answer s.before))
+    ∙ block_width _ _ _ _ _ _ _ _ _ _ _ _ _ _ (sym s.if-no-ne-DONE.false ∙ answer s.before))
 
 -- full and half phases name one anchor twice
 twice : (c : tie.Else-at_quarter) → let r = (looks c.before.before.before).phase_at-k.result in r.p ≡ r.q
@@ -141,7 +141,7 @@ hpel_block_spec =
     let t = r.before.before in
     let k = (first t).before in
     let o = served k in (
-      sym o.if-no-ne-DONE.left ∙ answer o.before,
+      sym o.if-no-ne-DONE.false ∙ answer o.before,
       averaged_views _ _ _ _ _ _ _ _ _ _ (place k).0 (place k).1 _ _ _ _ (looked (looks k)) (picked _ _ _ _ _ _ (four (looks k)).0, (first t).first_at-i.ensures)
           (picked _ _ _ _ _ _ (four (looks k)).1, (second t).first_at-j.ensures) (view1 t).tail-a.ensures t.tail-b.ensures r.average_block.ensures,
     ))
@@ -163,6 +163,6 @@ hpel_block_spec =
     let f = e.before.before in
     let k = f.before in
     let o = served k in (
-      sym o.if-no-ne-DONE.left ∙ answer o.before,
+      sym o.if-no-ne-DONE.false ∙ answer o.before,
       copied _ _ _ _ _ _ _ _ _ _ (place k).0 (place k).1 _ _ _ _ (looked (looks k)) (picked _ _ _ _ _ _ (four (looks k)).0, f.first_at-i.ensures) (twice e) r.copy_block.ensures,
     )))

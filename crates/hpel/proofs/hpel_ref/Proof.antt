@@ -18,7 +18,7 @@ hpel_ref_spec =
     (tie.spec
     (λ c κs. search rules)
     (λ c. search rules)
-    (λ c. no_tail _ _ _ _ _ _ _ _ _ _ _ _ _ (found c.before.before.before) c.before.if-k-ne-DONE.true)
+    (λ c. no_tail _ _ _ _ _ _ _ _ _ _ _ _ _ (found c.before.before) c.if-k-ne-DONE.true)
     (λ c κs. search rules)
     (λ c κs. search rules)
     (λ c.
