@@ -20,7 +20,7 @@ ok c = build_ok _ _ _ _ _ _ _ _ (sym c.if1.false ∙ c.before.check-build.ensure
 
 -- the padded plane
 padded : (c : tie.After-clamped-area) → let a = c.before.before.before.before.before.before.before.before.before.args in
-    c.clamped-area.new.1.1.1.1.1.1.1.1.1.1.0 ≡ drawn a.f.now (a.cw + 2 * a.pad) (a.ch + 2 * a.pad) (padded_at a.reference.now a.cw a.ch a.pad)
+    c.clamped-area.new.dst ≡ drawn a.f.now (a.cw + 2 * a.pad) (a.ch + 2 * a.pad) (padded_at a.reference.now a.cw a.ch a.pad)
 padded c =
     let a = c.before.before.before.before.before.before.before.before.before.args in
     c.clamped-area.ensures ∙ drawn_ext a.f.now (a.cw + 2 * a.pad) (a.ch + 2 * a.pad) _ _ (λ x y _ _. padded_is a.reference.now a.cw a.ch a.pad x y)

@@ -35,7 +35,7 @@ returns-2 c =
     let l = c.before.before.before.before.before.before in
     let t = l.before.before.before.before.before.before in
     let a = t.before.before.before.before.before.before.before.before.args in
-    part a.f.now a.pw a.ph a.x a.y a.n (λ i. window_at t.luma-tile-into.new.0 0 (a.n + 5) i 0)
+    part a.f.now a.pw a.ph a.x a.y a.n (λ i. window_at t.luma-tile-into.new.t 0 (a.n + 5) i 0)
     (λ x i j b p q.
     in_tile a.f.now _ 0 a.pw a.pw a.ph (a.x + 2 ^ 29) (a.y + 2 ^ 29) (2 ^ 29 + 2) (a.n + 5) 6 t.luma-tile-into.ensures x 0 i j (omega arith) (omega arith))
     _ _ _ _ l.build-lanes2.ensures
