@@ -4,7 +4,7 @@ use mathlib.Core.Path.{◌≡◌, sym, ◌∙◌}
 use mathlib.Core.List.{List}
 use Prim.Native.Nat.{ℕ}
 use lib.IntN.{ℤ}
-use denote.Ref.{Bor}
+use denote.Ref.{Bor, MutBor}
 use contract.Lifetimes.{Lfts}
 use Rattle.hpel.specs.declared.HpelAt.{HpelAt}
 use Rattle.hpel.specs.declared.HpelPair.{HpelPair}
@@ -24,7 +24,7 @@ abbrev pub Read : Type 0
 Read = Passed (Unit {0})
 
 abbrev pub Written : Type 0
-Written = Passed (Bor (List ℕ) × Unit {0})
+Written = Passed (MutBor (List ℕ) × Unit {0})
 
 abbrev pub out : Written → List ℕ
 out x = x.1.1.1.1.1.1.1.1.1.1.1.1.1.0.now

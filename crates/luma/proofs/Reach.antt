@@ -5,7 +5,7 @@ use Prim.Native.Nat.{ℕ, ◌+◌, ◌<◌}
 use native.Mathlib.Omega.{arith}
 use lib.IntN.{ℤ, pos, ◌+ℤ◌, ◌-ℤ◌}
 use lib.ListN.{length}
-use denote.Ref.{Bor}
+use denote.Ref.{Bor, MutBor}
 use contract.Lifetimes.{Lfts}
 use Rattle.place.specs.Place.{floor_z, luma_place, phase}
 use Rattle.place.specs.Picture.{sample_at, window}
@@ -30,9 +30,9 @@ luma_reach pic pic' w h x0 y0 bw bh mvx mvy e c r a b =
 
 -- OF THE CALL: the same arguments but for the picture, of one length: one answer, and the same bytes where the windows agree
 abbrev Rest : Type 0
-Rest = ℕ × (ℕ × (ℕ × (ℕ × (ℕ × (ℕ × (ℤ × (ℤ × (Bor (List ℕ) × Unit {0}))))))))
+Rest = ℕ × (ℕ × (ℕ × (ℕ × (ℕ × (ℕ × (ℤ × (ℤ × (MutBor (List ℕ) × Unit {0}))))))))
 
-module _ (κs : Lfts 2) (pic pic' : Bor (List ℕ)) (w h x0 y0 bw bh : ℕ) (mvx mvy : ℤ) (out : Bor (List ℕ)) (same : length pic.now ≡ length pic'.now) where
+module _ (κs : Lfts 2) (pic pic' : Bor (List ℕ)) (w h x0 y0 bw bh : ℕ) (mvx mvy : ℤ) (out : MutBor (List ℕ)) (same : length pic.now ≡ length pic'.now) where
   abbrev rest : Rest
   rest = (w, (h, (x0, (y0, (bw, (bh, (mvx, (mvy, (out, tt)))))))))
 

@@ -4,7 +4,7 @@ use mathlib.Core.Path.{◌≡◌, ap, ◌∙◌}
 use mathlib.Core.List.{List}
 use Prim.Native.Nat.{ℕ, suc}
 use lib.IntN.{ℤ}
-use denote.Ref.{Bor}
+use denote.Ref.{Bor, MutBor}
 use contract.Lifetimes.{Lfts}
 use Rattle.place.specs.Outcome.{after}
 use Rattle.margins.specs.declared.Geometry.{Geometry}
@@ -18,13 +18,13 @@ abbrev pub Numbers : Type 0 → Type 0
 Numbers Out = Geometry × (ℕ × (ℕ × (ℕ × (ℕ × (ℤ × (ℤ × Out))))))
 
 abbrev pub Block : Type 0
-Block = Bor (List ℕ) × Numbers (Bor (List ℕ) × Unit {0})
+Block = Bor (List ℕ) × Numbers (MutBor (List ℕ) × Unit {0})
 
 abbrev pub Lent : Type 0
-Lent = Bor (List ℕ) × (Bor (List ℕ) × (Bor (List ℕ) × Block))
+Lent = MutBor (List ℕ) × (MutBor (List ℕ) × (MutBor (List ℕ) × Block))
 
 abbrev pub Two : Type 0
-Two = Bor (List ℕ) × (Bor (List ℕ) × Numbers (Bor (List ℕ) × (Bor (List ℕ) × Unit {0})))
+Two = Bor (List ℕ) × (Bor (List ℕ) × Numbers (MutBor (List ℕ) × (MutBor (List ℕ) × Unit {0})))
 
 abbrev pub out : Block → List ℕ
 out x = x.1.1.1.1.1.1.1.1.0.now

@@ -5,7 +5,7 @@ use Prim.Native.Nat.{ℕ, ◌+◌, ◌<◌}
 use native.Mathlib.Omega.{arith}
 use lib.IntN.{ℤ, pos, ◌+ℤ◌, ◌-ℤ◌}
 use lib.ListN.{length}
-use denote.Ref.{Bor}
+use denote.Ref.{Bor, MutBor}
 use contract.Lifetimes.{Lfts}
 use Rattle.place.specs.Place.{floor_z, luma_place, chroma_place, phase}
 use Rattle.place.proofs.Reach.{part_agrees, written}
@@ -55,7 +55,7 @@ module _ (g : Geometry) (x0 y0 bw bh : ℕ) (mvx mvy : ℤ) where
       chroma_four (phase mvx 8) (phase mvy 8) _ _ (λ i j k l. part_agrees (read buf) (read buf') (pos x0 +ℤ floor_z mvx 8) (pos y0 +ℤ floor_z mvy 8) (bw + 1) (bh + 1) e c r i j (omega arith) (omega arith))
 
 -- OF THE CALLS: the same arguments but for the planes, of one length each: one answer, and the same bytes where the windows agree
-module _ (g : Geometry) (x0 y0 bw bh : ℕ) (mvx mvy : ℤ) (buf buf' o : Bor (List ℕ)) (same : length buf.now ≡ length buf'.now) where
+module _ (g : Geometry) (x0 y0 bw bh : ℕ) (mvx mvy : ℤ) (buf buf' : Bor (List ℕ)) (o : MutBor (List ℕ)) (same : length buf.now ≡ length buf'.now) where
   abbrev with : {Out : Type 0} → Out → Numbers Out
   with w = (g, (x0, (y0, (bw, (bh, (mvx, (mvy, w)))))))
 
@@ -67,7 +67,7 @@ module _ (g : Geometry) (x0 y0 bw bh : ℕ) (mvx mvy : ℤ) (buf buf' o : Bor (L
   mc_luma_padded_reach κs p q s t a b =
       let e : p ≡ q = cc in (e, λ k. written o.now bw bh _ _ e (luma_reach g x0 y0 bw bh mvx mvy buf.now buf'.now k) a.1 b.1)
 
-  pub mc_luma_padded_slices_reach : (κs : Lfts 5) (tile ga gb : Bor (List ℕ)) (p q : ℕ) (s t : Lent)
+  pub mc_luma_padded_slices_reach : (κs : Lfts 5) (tile ga gb : MutBor (List ℕ)) (p q : ℕ) (s t : Lent)
       → slices.Post κs (tile, (ga, (gb, block buf))) p s → slices.Post κs (tile, (ga, (gb, block buf'))) q t
       → (p ≡ q) × (LumaAgree g x0 y0 bw bh mvx mvy buf.now buf'.now → out s.1.1.1 ≡ out t.1.1.1)
   mc_luma_padded_slices_reach κs tile ga gb p q s t a b =
@@ -78,7 +78,7 @@ module _ (g : Geometry) (x0 y0 bw bh : ℕ) (mvx mvy : ℤ) (buf buf' o : Bor (L
   mc_chroma_padded_reach κs p q s t a b =
       let e : p ≡ q = cc in (e, λ k. written o.now bw bh _ _ e (chroma_reach g x0 y0 bw bh mvx mvy buf.now buf'.now k) a.1 b.1)
 
-  pub mc_chroma_padded_pair_reach : (κs : Lfts 4) (pv pv' ov : Bor (List ℕ)) → length pv.now ≡ length pv'.now → (p q : ℕ) (s t : Two)
+  pub mc_chroma_padded_pair_reach : (κs : Lfts 4) (pv pv' : Bor (List ℕ)) (ov : MutBor (List ℕ)) → length pv.now ≡ length pv'.now → (p q : ℕ) (s t : Two)
       → pair.Post κs (buf, (pv, with (o, (ov, tt)))) p s → pair.Post κs (buf', (pv', with (o, (ov, tt)))) q t
       → (p ≡ q) × (ChromaAgree g x0 y0 bw bh mvx mvy buf.now buf'.now → outu s ≡ outu t)
       × (ChromaAgree g x0 y0 bw bh mvx mvy pv.now pv'.now → outv s ≡ outv t)

@@ -3,14 +3,14 @@
 use mathlib.Core.Path.{◌≡◌}
 use mathlib.Core.List.{List}
 use Prim.Native.Nat.{ℕ}
-use denote.Ref.{Bor}
+use denote.Ref.{Bor, MutBor}
 use contract.Lifetimes.{Lfts}
 use Rattle.planes.proofs.pad_plane.Reads as pad-plane-reads
 use Rattle.planes.proofs.build_hpel_planes.Reads as build-hpel-planes-reads
 
 -- what is passed, and what is there at the return: only `out` can have changed
 abbrev Padded : Type 0
-Padded = Bor (List ℕ) × (ℕ × (ℕ × (ℕ × (Bor (List ℕ) × Unit {0}))))
+Padded = Bor (List ℕ) × (ℕ × (ℕ × (ℕ × (MutBor (List ℕ) × Unit {0}))))
 
 pub pad_plane_only : (κs : Lfts 2) (x s t : Padded) (p q : ℕ) → pad-plane-reads.Post κs x p s → pad-plane-reads.Post κs x q t
     → (p ≡ q) × (s.1.1.1.1.0.now ≡ t.1.1.1.1.0.now)
@@ -18,7 +18,7 @@ pad_plane_only κs x s t p q a b = (cc, cc)
 
 -- the same with the four planes f, h, v and c
 abbrev Built : Type 0
-Built = Bor (List ℕ) × (ℕ × (ℕ × (ℕ × (Bor (List ℕ) × (Bor (List ℕ) × (Bor (List ℕ) × (Bor (List ℕ) × Unit {0})))))))
+Built = Bor (List ℕ) × (ℕ × (ℕ × (ℕ × (MutBor (List ℕ) × (MutBor (List ℕ) × (MutBor (List ℕ) × (MutBor (List ℕ) × Unit {0})))))))
 
 pub build_hpel_planes_only : (κs : Lfts 5) (x s t : Built) (p q : ℕ) → build-hpel-planes-reads.Post κs x p s → build-hpel-planes-reads.Post κs x q t
     → (p ≡ q) × (s.1.1.1.1.0.now ≡ t.1.1.1.1.0.now) × (s.1.1.1.1.1.0.now ≡ t.1.1.1.1.1.0.now)

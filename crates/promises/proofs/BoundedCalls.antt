@@ -4,7 +4,7 @@ use mathlib.Core.List.{List}
 use Prim.Native.Nat.{ℕ, ◌+◌, ◌*◌}
 use lib.IntN.{ℤ, pos, ◌+ℤ◌, ◌-ℤ◌}
 use lib.ListN.{get_or}
-use denote.Ref.{Bor}
+use denote.Ref.{Bor, MutBor}
 use contract.Lifetimes.{Lfts}
 use Rattle.grid.specs.Block.{drawn}
 use Rattle.grid.proofs.Fill.{drawn_at}
@@ -42,13 +42,13 @@ module _ (x0 y0 bw bh : ℕ) (mvx mvy : ℤ) where
   padded_window buf stride pad w h c r i j =
       read_at (luma_direct w h pad x0 y0 bw bh mvx mvy) buf stride pad w h (luma_place x0 mvx c +ℤ pos i -ℤ pos 2) (luma_place y0 mvy r +ℤ pos j -ℤ pos 2)
 
-  pub mc_luma_bounded : (κs : Lfts 2) (pic o : Bor (List ℕ)) (w h : ℕ) (s : _) → plain.Post κs (pic, (w, (h, (x0, (y0, (bw, (bh, (mvx, (mvy, (o, tt)))))))))) 0 s
+  pub mc_luma_bounded : (κs : Lfts 2) (pic : Bor (List ℕ)) (o : MutBor (List ℕ)) (w h : ℕ) (s : _) → plain.Post κs (pic, (w, (h, (x0, (y0, (bw, (bh, (mvx, (mvy, (o, tt)))))))))) 0 s
       → BoundedBlock (plain_window pic.now w h) s.1.1.1.1.1.1.1.1.1.0.now
   unfolding predicted_luma
   mc_luma_bounded κs pic o w h s a = drawn_bounded 255 _ _ bw bh _ o.now _ a.1
 
   -- by a plane with margins: with its own scratch, with lent slices, and with a lent record
-  module _ (g : Geometry) (buf o : Bor (List ℕ)) where
+  module _ (g : Geometry) (buf : Bor (List ℕ)) (o : MutBor (List ℕ)) where
     abbrev block : Block
     block = (buf, (g, (x0, (y0, (bw, (bh, (mvx, (mvy, (o, tt)))))))))
 
@@ -59,7 +59,7 @@ module _ (x0 y0 bw bh : ℕ) (mvx mvy : ℤ) where
     unfolding padded_luma
     mc_luma_padded_bounded κs s a = drawn_bounded 255 _ _ bw bh _ o.now _ a.1
 
-    pub mc_luma_padded_slices_bounded : (κs : Lfts 5) (tile ga gb : Bor (List ℕ)) (s : Lent) → slices.Post κs (tile, (ga, (gb, block))) 0 s
+    pub mc_luma_padded_slices_bounded : (κs : Lfts 5) (tile ga gb : MutBor (List ℕ)) (s : Lent) → slices.Post κs (tile, (ga, (gb, block))) 0 s
         → BoundedBlock reads (out s.1.1.1)
     unfolding padded_luma
     mc_luma_padded_slices_bounded κs tile ga gb s a = drawn_bounded 255 _ _ bw bh _ o.now _ a.1

@@ -2,6 +2,7 @@
 -- tools/determined compares this file with the public functions of every crate of the counter and of the exports. Assumes nothing.
 use mathlib.Core.Path.{◌≡◌, refl, sym, ◌∙◌}
 use mathlib.Core.List.{List, [], ◌∷◌}
+use denote.Ref.{Bor}
 use contract.Lifetimes.{Lfts}
 use Prim.Native.Nat.{ℕ}
 use lib.IntN.{ℤ}
@@ -218,7 +219,7 @@ module _ (d : HpelPlanes) (x0 y0 bw bh : ℕ) (mvx mvy : ℤ) where
   pub bundle_hpel_qpel_refs_at : Determined {X = Unit {0}} (λ _ r _. r ≡ by_lengths qpel_at) (λ _. [])
   bundle_hpel_qpel_refs_at x s t p q a b = (a ∙ sym b, refl)
 
-  pub bundle_hpel_ref : Shown {X = Unit {0}} (λ _ r _. r.now ≡ by_contents ref_tail) (λ x. x.now)
+  pub bundle_hpel_ref : Shown {X = Unit {0}} {R = Bor (List ℕ)} (λ _ r _. r.now ≡ by_contents ref_tail) (λ x. x.now)
   bundle_hpel_ref x s t p q a b = a ∙ sym b
 
   pub bundle_hpel_qpel_refs : Shown {X = Unit {0}} (λ _ r _. contents r ≡ by_contents qpel_tails) contents

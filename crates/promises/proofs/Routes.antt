@@ -4,7 +4,7 @@ use mathlib.Core.List.{List, [], ◌++◌}
 use Prim.Native.Nat.{ℕ, ◌+◌, ◌*◌, ◌≤◌, ◌<◌}
 use lib.IntN.{ℤ, pos, ◌+ℤ◌, ◌-ℤ◌}
 use lib.ListN.{length, get_or}
-use denote.Ref.{Bor}
+use denote.Ref.{Bor, MutBor}
 use contract.Lifetimes.{Lfts}
 use Rattle.grid.specs.Block.{sample, drawn}
 use Rattle.grid.proofs.Fill.{drawn_ext}
@@ -43,7 +43,7 @@ module _ (x0 y0 bw bh : ℕ) (mvx mvy : ℤ) where
   abbrev pub Draws : (pic : List ℕ) (w ht : ℕ) (old new : List ℕ) → Type 0
   Draws pic w ht old new = new ≡ drawn old bw bh (predicted_luma pic w ht x0 y0 mvx mvy)
 
-  pub mc_luma_draws : (κs : Lfts 2) (pic o : Bor (List ℕ)) (w ht : ℕ) (s : _) → plain.Post κs (pic, (w, (ht, (x0, (y0, (bw, (bh, (mvx, (mvy, (o, tt)))))))))) 0 s
+  pub mc_luma_draws : (κs : Lfts 2) (pic : Bor (List ℕ)) (o : MutBor (List ℕ)) (w ht : ℕ) (s : _) → plain.Post κs (pic, (w, (ht, (x0, (y0, (bw, (bh, (mvx, (mvy, (o, tt)))))))))) 0 s
       → Draws pic.now w ht o.now s.1.1.1.1.1.1.1.1.1.0.now
   mc_luma_draws κs pic o w ht s a = a.1
 
@@ -65,14 +65,14 @@ module _ (x0 y0 bw bh : ℕ) (mvx mvy : ℤ) where
     margin_draws buf old new n m ok e = e ∙ drawn_ext old bw bh _ _ (margin_sample buf m ok.stride1 ok.w1 ok.h1)
 
   -- with its own scratch, with lent slices, and with a lent record
-  module _ (pic : List ℕ) (g : Geometry) (buf o : Bor (List ℕ)) (m : Margins pic g.pw g.ph g.pad g.stride buf.now) where
+  module _ (pic : List ℕ) (g : Geometry) (buf : Bor (List ℕ)) (o : MutBor (List ℕ)) (m : Margins pic g.pw g.ph g.pad g.stride buf.now) where
     abbrev block : Block
     block = (buf, (g, (x0, (y0, (bw, (bh, (mvx, (mvy, (o, tt)))))))))
 
     pub mc_luma_padded_draws : (κs : Lfts 2) (s : Block) → padded.Post κs block 0 s → Draws pic g.pw g.ph o.now (out s)
     mc_luma_padded_draws κs s a = margin_draws pic _ _ _ _ buf.now _ _ _ m (padded_block_ok 16 _ _ _ _ _ _ _ _ _ _ a.0).0 a.1
 
-    pub mc_luma_padded_slices_draws : (κs : Lfts 5) (tile ga gb : Bor (List ℕ)) (s : Lent) → slices.Post κs (tile, (ga, (gb, block))) 0 s
+    pub mc_luma_padded_slices_draws : (κs : Lfts 5) (tile ga gb : MutBor (List ℕ)) (s : Lent) → slices.Post κs (tile, (ga, (gb, block))) 0 s
         → Draws pic g.pw g.ph o.now (out s.1.1.1)
     unfolding slices_refusal padded_block_refusal
     mc_luma_padded_slices_draws κs tile ga gb s a =
@@ -95,7 +95,7 @@ module _ (x0 y0 bw bh : ℕ) (mvx mvy : ℤ) where
     derived_sample =
         hpel_standard pic w ht pad f.now h.now v.now c.now d.f_was d.h_was d.v_was d.c_was d.full d.across d.down d.centre x0 y0 bw bh mvx mvy
 
-    pub hpel_block_draws : (κs : Lfts 2) (o : Bor (List ℕ)) (s : Written) → hpel.Post κs (lent (o, tt)) 0 s → Draws pic w ht o.now (calls.out s)
+    pub hpel_block_draws : (κs : Lfts 2) (o : MutBor (List ℕ)) (s : Written) → hpel.Post κs (lent (o, tt)) 0 s → Draws pic w ht o.now (calls.out s)
     hpel_block_draws κs o s a = a.1 ∙ drawn_ext o.now bw bh _ _ (derived_sample (block_served _ _ _ _ w ht pad x0 y0 bw bh mvx mvy _ a.0))
 
     -- the views, read with the stride of the lookup that did not refuse

@@ -5,7 +5,7 @@ use Prim.Native.Nat.{ℕ, zero, suc, ◌+◌, ◌*◌, ◌≤◌, min}
 use native.Mathlib.Omega.{arith}
 use lib.IntN.{ℤ, pos}
 use lib.ListN.{length}
-use denote.Ref.{Bor}
+use denote.Ref.{Bor, MutBor}
 use contract.Lifetimes.{Lfts}
 use Rattle.grid.specs.Block.{sample, by_rows, tab, block, drawn}
 use Rattle.place.specs.Picture.{sample_at, window}
@@ -57,12 +57,12 @@ no_fixed_grey fx fy P a b =
 
 -- a picture of the one sample 77, and an output of the one byte 0
 abbrev Passed : Type 0
-Passed = Bor (List ℕ) × (ℕ × (ℕ × (ℕ × (ℕ × (ℕ × (ℕ × (ℤ × (ℤ × (Bor (List ℕ) × Unit {0})))))))))
+Passed = Bor (List ℕ) × (ℕ × (ℕ × (ℕ × (ℕ × (ℕ × (ℕ × (ℤ × (ℤ × (MutBor (List ℕ) × Unit {0})))))))))
 
-abbrev one : (pic out : Bor (List ℕ)) → Passed
+abbrev one : (pic : Bor (List ℕ)) (out : MutBor (List ℕ)) → Passed
 one pic out = (pic, (1, (1, (0, (0, (1, (1, (pos 0, (pos 0, (out, tt))))))))))
 
-module _ (κs : Lfts 2) (pic out : Bor (List ℕ)) (a : pic.now ≡ 77 ∷ []) (b : out.now ≡ 0 ∷ []) (s : Passed) where
+module _ (κs : Lfts 2) (pic : Bor (List ℕ)) (out : MutBor (List ℕ)) (a : pic.now ≡ 77 ∷ []) (b : out.now ≡ 0 ∷ []) (s : Passed) where
   pub must_serve : (n : ℕ) → mc-luma.Post κs (one pic out) (suc n) s → ⊥
   unfolding plain_block_refusal lowest
   must_serve n c =

@@ -1,7 +1,6 @@
 -- The sum of three numbers of 32 bits less the smallest and the largest, each step modulo 2^32, is the median.
 -- Assumes nothing.
-use Rattle.std.proofs.Common.{◌≡◌, ℕ, ◌+◌, ◌-◌, ◌%◌, ◌^◌, ◌<◌, ◌≤◌, min, max, ℤ, sym, refl, ap, ◌∙◌, subst, arith, w32, SFits, to_z, of_z}
-use lib.IntN.{sub_ℕ}
+use Rattle.std.proofs.Common.{◌≡◌, ℕ, ◌+◌, ◌-◌, ◌%◌, ◌^◌, ◌<◌, ◌≤◌, min, max, ℤ, sym, ◌∙◌, arith, w32, SFits, to_z, of_z}
 use Rattle.signed.specs.Order.{min_z, max_z}
 use Rattle.signed.proofs.Diff.{sub_eq, sub_min, sub_max, all3_32, bits_sub, of_bits}
 use Rattle.vectors.specs.Median.{median}

@@ -58,6 +58,7 @@ const NO_REFERENCE: MvAnswer = MvAnswer {
 };
 
 // Unavailable, or with a negative reference: vector (0,0), reference -1.
+#[tactic(auto, unfolding(crate::specs::Predict::resolved))]
 fn resolve(n: MvNeighbor) -> Resolved
     ensures { result ≡ resolved n }
 {
@@ -74,6 +75,7 @@ fn resolve(n: MvNeighbor) -> Resolved
     }
 }
 
+#[tactic(auto, unfolding(crate::specs::Predict::median_mv))]
 fn median_mv(a: Mv, b: Mv, c: Mv) -> Mv
     ensures { result ≡ median_mv a b c }
 {
@@ -84,6 +86,7 @@ fn median_mv(a: Mv, b: Mv, c: Mv) -> Mv
 }
 
 // The vector of the only one whose reference is the current one, else the median.
+#[tactic(auto, unfolding(crate::specs::Predict::chosen_mv))]
 fn chosen(a: Resolved, b: Resolved, c: Resolved, cur_ref: i32) -> Mv
     ensures { result ≡ chosen_mv a b c cur_ref }
 {
@@ -120,6 +123,7 @@ fn alone(p: bool, q: bool, s: bool) -> bool
     p && (!q && !s)
 }
 
+#[tactic(auto, unfolding(crate::specs::Predict::predicted))]
 fn rule(a: MvNeighbor, b: MvNeighbor, c: MvNeighbor, cur_ref: i32) -> Mv
     ensures { result ≡ predicted a b c cur_ref }
 {
@@ -136,6 +140,7 @@ fn bad_reference(cur_ref: i32) -> bool
     (cur_ref < 0) | (31 < cur_ref)
 }
 
+#[tactic(auto, unfolding(crate::specs::Predict::predict_answer))]
 pub fn predict_mv(a: MvNeighbor, b: MvNeighbor, c: MvNeighbor, cur_ref: i32) -> MvAnswer
     ensures { result ≡ predict_answer a b c cur_ref }
 {
@@ -147,6 +152,7 @@ pub fn predict_mv(a: MvNeighbor, b: MvNeighbor, c: MvNeighbor, cur_ref: i32) -> 
 }
 
 // Which neighbour a partition takes directly: 0 none, 1 A, 2 B, 3 C.
+#[tactic(auto, unfolding(crate::specs::Partition::side_of))]
 fn side(mode: u8, part: usize) -> u8
     ensures { result ≡ side_of mode part }
 {
@@ -181,6 +187,7 @@ fn serves(n: MvNeighbor, cur_ref: i32) -> bool
     }
 }
 
+#[tactic(auto, unfolding(crate::specs::Partition::direct_answer))]
 fn direct(n: MvNeighbor, a: MvNeighbor, b: MvNeighbor, c: MvNeighbor, cur_ref: i32) -> MvAnswer
     ensures { result ≡ direct_answer n a b c cur_ref }
 {
@@ -191,6 +198,7 @@ fn direct(n: MvNeighbor, a: MvNeighbor, b: MvNeighbor, c: MvNeighbor, cur_ref: i
     predict_mv(a, b, c, cur_ref)
 }
 
+#[tactic(auto, unfolding(crate::specs::Partition::partition_answer))]
 pub fn predict_partition_mv(
     mode: u8,
     part: usize,

@@ -17,4 +17,4 @@ avg_lanes_spec =
     (λ c. search rules)
     (λ c κs. search rules)
     (λ c. search rules)
-    (λ c. stored _ _ _ _ (c.before.before.copy_run.ensures ∙ put_ext _ _ _ _ _ (λ i h. simp zero-add)) c.before.before.before.before.before.before.mean-lanes.ensures (omega arith)))
+    (λ c. stored _ _ _ _ (c.before.before.copy_run.ensures ∙ put_ext _ _ _ _ _ (λ i h. simp zero-add)) c.before.before.before.before.before.before.mean_lanes.ensures (omega arith)))

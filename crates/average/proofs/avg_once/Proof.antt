@@ -12,5 +12,5 @@ avg_once_spec =
     (tie.spec
     (λ c κs. omega arith)
     (λ c. search rules)
-    (λ c. (omega arith, c.before.before.avg-lanes.ensures))
+    (λ c. (omega arith, c.before.before.avg_lanes.ensures))
     (λ c. (omega arith, sym (put_zero _ _ _))))

@@ -8,10 +8,10 @@ use Rattle.samples.specs.Tap.{mean}
 use Rattle.average.proofs.avg_rest.Statement.{statement}
 use Rattle.average.proofs.avg_rest.Tie as tie
 
-abbrev invariant-loop : tie.invariant-loop
+abbrev invariant-loop : tie.invariant-loop-i
 invariant-loop a p b q n dst₀ o i₀ dst i = Filled dst₀ o n (λ i. mean (get_or a (p + i) 0) (get_or b (q + i) 0)) i dst
 
-abbrev decreases-loop : tie.decreases-loop
+abbrev decreases-loop : tie.decreases-loop-i
 decreases-loop a p b q n dst₀ o i₀ dst i = n - i
 
 pub avg_rest_spec : {M : Type 1} → statement M
@@ -30,6 +30,6 @@ avg_rest_spec =
     (λ c. omega arith)
     (λ c. omega arith)
     (λ c. omega arith)
-    (λ c. filled_more c.before.before.before.before.loop.invariant (omega arith) refl c.avg2.ensures)
+    (λ c. filled_more c.before.before.before.before.loop-i.invariant (omega arith) refl c.avg2.ensures)
     (λ c. omega arith)
-    (λ c. filled_done c.before.loop.invariant (omega arith)))
+    (λ c. filled_done c.before.loop-i.invariant (omega arith)))

@@ -28,17 +28,17 @@ returns c =
     let x = y.before.before.before.before in
     let w = x.before.before.before.before in
     let a = w.before.before.before.before.before.args in
-    let i = w.avg-wide.result in
-    let j = i + x.avg-once.result in
-    let k = j + y.avg-once2.result in
+    let i = w.avg_wide-i.result in
+    let j = i + x.avg_once.result in
+    let k = j + y.avg_once-2.result in
     let e : k + (a.n - k) ≡ a.n = omega arith in
     let d = a.dst.now in
     let u = a.a.now in
     let v = a.b.now in
     on d u v a.o k (a.n - k) a.p a.q (omega arith)
-    (on d u v a.o j y.avg-once2.result a.p a.q (omega arith)
-    (on d u v a.o i x.avg-once.result a.p a.q (omega arith) w.avg-wide.ensures.1 x.avg-once.ensures.1) y.avg-once2.ensures.1)
-    l.avg-rest.ensures
+    (on d u v a.o j y.avg_once-2.result a.p a.q (omega arith)
+    (on d u v a.o i x.avg_once.result a.p a.q (omega arith) w.avg_wide-i.ensures.1 x.avg_once.ensures.1) y.avg_once-2.ensures.1)
+    l.avg_rest.ensures
     ∙ ap (λ (m : ℕ). put d a.o m (means u v a.p a.q)) e
 
 pub avg_run_spec : {M : Type 1} → statement M

@@ -9,10 +9,10 @@ use Rattle.samples.specs.Tap.{mean}
 use Rattle.average.proofs.mean_lanes.Statement.{statement}
 use Rattle.average.proofs.mean_lanes.Tie as tie
 
-abbrev invariant-loop : tie.invariant-loop
+abbrev invariant-loop : tie.invariant-loop-i
 invariant-loop a p b q n z₀ i₀ z i = Filled z₀ 0 n (λ i. mean (get_or a (p + i) 0) (get_or b (q + i) 0)) i z
 
-abbrev decreases-loop : tie.decreases-loop
+abbrev decreases-loop : tie.decreases-loop-i
 decreases-loop a p b q n z₀ i₀ z i = n - i
 
 pub mean_lanes_spec : {M : Type 1} → statement M
@@ -30,6 +30,6 @@ mean_lanes_spec =
     (λ c. omega arith)
     (λ c. omega arith)
     (λ c. omega arith)
-    (λ c. filled_more c.before.before.before.before.loop.invariant (omega arith) (sym (zero-add _)) c.avg2.ensures)
+    (λ c. filled_more c.before.before.before.before.loop-i.invariant (omega arith) (sym (zero-add _)) c.avg2.ensures)
     (λ c. omega arith)
-    (λ c. filled_done c.before.loop.invariant (omega arith)))
+    (λ c. filled_done c.before.loop-i.invariant (omega arith)))

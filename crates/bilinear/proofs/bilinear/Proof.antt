@@ -11,10 +11,10 @@ use Rattle.bilinear.proofs.Weights.{Weighed, weighed}
 use Rattle.bilinear.proofs.bilinear.Statement.{statement}
 use Rattle.bilinear.proofs.bilinear.Tie as tie
 
-sum : (c : tie.After-wide4) →
+sum : (c : tie.After-wide-d) →
     let s = c.before.before.before.before.before.before in
     let a = s.before.before.before.args in
-    Weighed a.fx a.fy (8 - a.fx) (8 - a.fy) s.wide.result c.before.before.before.before.wide2.result c.before.before.wide3.result c.wide4.result
+    Weighed a.fx a.fy (8 - a.fx) (8 - a.fy) s.wide-a.result c.before.before.before.before.wide-b.result c.before.before.wide-c.result c.wide-d.result
 sum c = weighed _ _ _ _ _ _ _ _ (omega arith) (omega arith) (omega arith) (omega arith) (omega arith) (omega arith)
 
 -- the sample at k, by its column and row

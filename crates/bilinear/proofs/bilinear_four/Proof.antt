@@ -20,6 +20,6 @@ bilinear_four_spec =
     (λ c.
     let b = c.before.before.before.before.before.before in
     let s = b.before.before.before.before in
-    stored_group {m = 4} _ b.bilinear-four-lanes.new.1.1.1.1.1.0 _ c.before.before.store-four.ensures
-    (λ j k h l. b.bilinear-four-lanes.ensures j k h l ∙ ap (chroma_sample _ _) (window_at_lem _ _ _ 0 0 _ _ _ (omega arith)))
+    stored_group {m = 4} _ b.bilinear_four_lanes.new.z _ c.before.before.store_four.ensures
+    (λ j k h l. b.bilinear_four_lanes.ensures j k h l ∙ ap (chroma_sample _ _) (window_at_lem _ _ _ 0 0 _ _ _ (omega arith)))
     (narrow_small _ s.requires.3)))

@@ -10,10 +10,10 @@ use Rattle.samples.specs.Kernel.{window_at}
 use Rattle.bilinear.proofs.bilinear_four_lanes.Statement.{statement}
 use Rattle.bilinear.proofs.bilinear_four_lanes.Tie as tie
 
-abbrev invariant-loop : tie.invariant-loop
+abbrev invariant-loop : tie.invariant-loop-i
 invariant-loop t p ts fx fy z₀ i₀ z i = Lanes 4 (λ i j. chroma_sample fx fy (window_at t (p + j * ts + i) ts 0 0)) i 0 z × (length z ≡ length z₀)
 
-abbrev decreases-loop : tie.decreases-loop
+abbrev decreases-loop : tie.decreases-loop-i
 decreases-loop t p ts fx fy z₀ i₀ z i = 8 - i
 
 -- the sample whose window starts at k
@@ -51,16 +51,16 @@ bilinear_four_lanes_spec =
     (λ c. omega arith)
     (λ c.
     let b = c.before.before in
-    let i = b.before.before.before.loop.invariant in (
+    let i = b.before.before.before.loop-i.invariant in (
       lanes_next
           (lanes_set
           (lanes_set
           (lanes_set (lanes_set i.0 (omega arith) (omega arith) (omega arith) (at _ _ _ _ _ _ b.before.bilinear.ensures (omega arith))) (omega arith) (omega arith) (omega arith)
-          (at _ _ _ _ _ _ b.bilinear2.ensures (omega arith)))
-          (omega arith) (omega arith) (omega arith) (at _ _ _ _ _ _ c.before.bilinear3.ensures (omega arith)))
-          (omega arith) (omega arith) (omega arith) (at _ _ _ _ _ _ c.bilinear4.ensures (omega arith)))
+          (at _ _ _ _ _ _ b.bilinear-in-loop-i.ensures (omega arith)))
+          (omega arith) (omega arith) (omega arith) (at _ _ _ _ _ _ c.before.bilinear-in-loop-i-2.ensures (omega arith)))
+          (omega arith) (omega arith) (omega arith) (at _ _ _ _ _ _ c.bilinear-in-loop-i-3.ensures (omega arith)))
           (omega arith),
       simp length-set i.1,
     ))
-    (λ c. c.before.loop.invariant.1)
-    (λ c. lanes_done c.before.loop.invariant.0 (omega arith)))
+    (λ c. c.before.loop-i.invariant.1)
+    (λ c. lanes_done c.before.loop-i.invariant.0 (omega arith)))

@@ -11,15 +11,15 @@ use Rattle.samples.proofs.Rows.{window_at_lem}
 use Rattle.bilinear.proofs.bilinear_fours.Statement.{statement}
 use Rattle.bilinear.proofs.bilinear_fours.Tie as tie
 
-abbrev invariant-loop : tie.invariant-loop
+abbrev invariant-loop : tie.invariant-loop-k
 invariant-loop t p ts fx fy bw bh dst₀ k₀ k-end dst k = Rows dst₀ bw bh (λ c r. chroma_sample fx fy (window_at t p ts c r)) (4 * k) dst
 
-abbrev decreases-loop : tie.decreases-loop
+abbrev decreases-loop : tie.decreases-loop-k
 decreases-loop t p ts fx fy bw bh dst₀ k₀ k-end dst k = k-end - k
 
 -- the four rows are there, in rows that are s apart
-inside : (c : tie.In-loop invariant-loop decreases-loop) (s : ℕ) → let bh = c.before.before.before.before.args.bh in (4 * c.before.loop.k + 4) * s ≤ bh * s
-inside c s = let e : 4 * c.before.loop.k + 4 ≤ c.before.before.before.before.args.bh = omega arith in mul-le-mul_right s e
+inside : (c : tie.In-loop-k invariant-loop decreases-loop) (s : ℕ) → let bh = c.before.before.before.before.args.bh in (4 * c.before.loop-k.k + 4) * s ≤ bh * s
+inside c s = let e : 4 * c.before.loop-k.k + 4 ≤ c.before.before.before.before.args.bh = omega arith in mul-le-mul_right s e
 
 pub bilinear_fours_spec : {M : Type 1} → statement M
 bilinear_fours_spec =
@@ -38,7 +38,7 @@ bilinear_fours_spec =
     (λ c. omega arith)
     (λ c. omega arith)
     (λ c.
-    rows_group c.before.before.before.before.before.loop.invariant (omega arith) c.before.before.bilinear-four.ensures
+    rows_group c.before.before.before.before.before.loop-k.invariant (omega arith) c.before.before.bilinear_four.ensures
     (λ x j h l. ap (chroma_sample _ _) (window_at_lem _ _ _ _ _ _ _ _ (omega arith))) (omega arith))
     (λ c. omega arith)
-    (λ c. rows_done c.before.loop.invariant (omega arith)))
+    (λ c. rows_done c.before.loop-k.invariant (omega arith)))

@@ -9,10 +9,10 @@ use Rattle.samples.specs.Kernel.{window_at}
 use Rattle.bilinear.proofs.bilinear_lanes.Statement.{statement}
 use Rattle.bilinear.proofs.bilinear_lanes.Tie as tie
 
-abbrev invariant-loop : tie.invariant-loop
+abbrev invariant-loop : tie.invariant-loop-i
 invariant-loop t p ts fx fy z₀ i₀ z i = Filled z₀ 0 8 (λ i. chroma_sample fx fy (window_at t (p + i) ts 0 0)) i z
 
-abbrev decreases-loop : tie.decreases-loop
+abbrev decreases-loop : tie.decreases-loop-i
 decreases-loop t p ts fx fy z₀ i₀ z i = 8 - i
 
 pub bilinear_lanes_spec : {M : Type 1} → statement M
@@ -27,6 +27,6 @@ bilinear_lanes_spec =
     (λ c. omega arith)
     (λ c. omega arith)
     (λ c. omega arith)
-    (λ c. filled_more c.before.before.loop.invariant (omega arith) (sym (zero-add _)) c.bilinear.ensures)
+    (λ c. filled_more c.before.before.loop-i.invariant (omega arith) (sym (zero-add _)) c.bilinear.ensures)
     (λ c. omega arith)
-    (λ c. filled_done c.before.loop.invariant (omega arith)))
+    (λ c. filled_done c.before.loop-i.invariant (omega arith)))

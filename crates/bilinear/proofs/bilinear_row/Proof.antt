@@ -13,4 +13,4 @@ bilinear_row_spec =
     (λ c κs. search rules)
     (λ c κs. search rules)
     (λ c. search rules)
-    (λ c. stored _ _ _ _ c.before.before.store_two.ensures c.before.before.before.before.before.before.bilinear-lanes.ensures (omega arith)))
+    (λ c. stored _ _ _ _ c.before.before.store_two.ensures c.before.before.before.before.before.before.bilinear_lanes.ensures (omega arith)))

@@ -16,8 +16,8 @@ chroma_block_spec =
     (λ c κs.
     let b = c.before.before in
     let s = b.before.before.before.requires in
-    let t = both _ _ c.before.if1.true in
-    (s.0, s.1, s.2, sym b.is-narrow.ensures ∙ t.0, eqb-true _ _ t.1, s.4))
+    let t = both _ _ c.before.if-is_narrow-bh.true in
+    (s.0, s.1, s.2, sym b.is_narrow.ensures ∙ t.0, eqb-true _ _ t.1, s.4))
     (λ c. search rules)
     (λ c. search rules)
     (λ c κs. search rules)

@@ -20,14 +20,14 @@ two z f a b zero k _ h = ap (λ (i : ℕ). get_or z i 0) (zero-add k) ∙ a k h
 two z f a b (suc zero) k _ h = b k h
 two z f a b (suc (suc j)) k h _ = absurd (omega arith)
 
-mid-pair-lanes-requires : tie.Need-mid-pair-lanes-requires
+mid-pair-lanes-requires : tie.Need-mid_pair_lanes-requires
 mid-pair-lanes-requires c κs =
     let s = c.before.before.before.before in
     let k = s.before.before.before.before.before.before in
     let a = k.before.args in
-    let byte = k.shared-slice-known.given in (
+    let byte = k.shared_slice_known-1.given in (
       sums_small a.t.now a.p a.ts byte 16 _ s.before.before.before.sums.ensures (zeros 21),
-      sums_small a.t.now (a.p + a.ts) a.ts byte 16 _ s.sums2.ensures (zeros 21),
+      sums_small a.t.now (a.p + a.ts) a.ts byte 16 _ s.sums-2.ensures (zeros 21),
       omega arith,
     )
 
@@ -38,12 +38,12 @@ returns c =
     let k = s.before.before.before.before.before.before in
     let a = k.before.args in
     let t = a.t.now in
-    let byte = k.shared-slice-known.given in
-    let z = m.mid-pair-lanes.new.1.1.0 in
+    let byte = k.shared_slice_known-1.given in
+    let z = m.mid_pair_lanes.new.z in
     stored_group {f = λ c r. centre 255 (window_at t a.p a.ts c r)} _ z _ c.before.before.store_pair.ensures
     (two z _
-    (λ i h. m.mid-pair-lanes.ensures.0 i h ∙ mid_centre t a.p a.ts byte 16 _ s.before.before.before.sums.ensures i (omega arith))
-    (λ i h. m.mid-pair-lanes.ensures.1 i h ∙ mid_centre t (a.p + a.ts) a.ts byte 16 _ s.sums2.ensures i (omega arith)
+    (λ i h. m.mid_pair_lanes.ensures.0 i h ∙ mid_centre t a.p a.ts byte 16 _ s.before.before.before.sums.ensures i (omega arith))
+    (λ i h. m.mid_pair_lanes.ensures.1 i h ∙ mid_centre t (a.p + a.ts) a.ts byte 16 _ s.sums-2.ensures i (omega arith)
     ∙ ap (centre 255) (window_at_lem t a.ts (a.p + a.ts) i 0 a.p i 1 (omega arith))))
     (narrow_small a.n k.before.requires.1)
 

@@ -11,10 +11,10 @@ use Rattle.samples.proofs.Rows.{window_at_lem}
 use Rattle.centre.proofs.centre_pairs.Statement.{statement}
 use Rattle.centre.proofs.centre_pairs.Tie as tie
 
-abbrev invariant-loop : tie.invariant-loop
+abbrev invariant-loop : tie.invariant-loop-k
 invariant-loop t p ts bw bh dst₀ n k₀ dst k = Rows dst₀ bw bh (λ c r. centre 255 (window_at t p ts c r)) (2 * k) dst
 
-abbrev decreases-loop : tie.decreases-loop
+abbrev decreases-loop : tie.decreases-loop-k
 decreases-loop t p ts bw bh dst₀ n k₀ dst k = bh / 2 - k
 
 -- where a pair ends in rows that are s apart
@@ -29,15 +29,15 @@ centre_pairs_spec =
     decreases-loop
     (λ c. rows_none _ _ _ _ (omega arith))
     (λ c. omega arith)
-    (λ c. let a = c.before.before.before.before.args in omega (arith, ends a.ts _ _ c.loop-test.true))
-    (λ c. let a = c.before.before.before.before.args in omega (arith, ends a.ts _ _ c.loop-test.true))
-    (λ c. let a = c.before.before.before.before.before.args in omega (arith, ends a.bw _ _ c.before.loop-test.true))
+    (λ c. let a = c.before.before.before.before.args in omega (arith, ends a.ts _ _ c.loop-k-test.true))
+    (λ c. let a = c.before.before.before.before.args in omega (arith, ends a.ts _ _ c.loop-k-test.true))
+    (λ c. let a = c.before.before.before.before.before.args in omega (arith, ends a.bw _ _ c.before.loop-k-test.true))
     (λ c κs.
     let s = c.before.before.before.before.before in
-    (omega (arith, ends s.args.ts _ _ c.before.loop-test.true), s.requires.1, omega (arith, ends s.args.bw _ _ c.before.loop-test.true)))
+    (omega (arith, ends s.args.ts _ _ c.before.loop-k-test.true), s.requires.1, omega (arith, ends s.args.bw _ _ c.before.loop-k-test.true)))
     (λ c. omega arith)
     (λ c. omega arith)
-    (λ c. rows_group c.before.before.before.before.before.loop.invariant (omega arith) c.before.before.centre-pair.ensures
+    (λ c. rows_group c.before.before.before.before.before.loop-k.invariant (omega arith) c.before.before.centre_pair.ensures
     (λ x j h b. ap (centre 255) (window_at_lem _ _ _ _ _ _ _ _ (omega arith))) (omega arith))
     (λ c. omega arith)
-    (λ c. rows_done c.before.loop.invariant (omega arith)))
+    (λ c. rows_done c.before.loop-k.invariant (omega arith)))

@@ -8,13 +8,13 @@ use Rattle.centre.proofs.Unrounded.{sums_twice, mid_centre, sums_small, zeros}
 use Rattle.centre.proofs.centre_row.Statement.{statement}
 use Rattle.centre.proofs.centre_row.Tie as tie
 
-mid-lanes-requires : tie.Need-mid-lanes-requires
+mid-lanes-requires : tie.Need-mid_lanes-requires
 mid-lanes-requires c κs =
     let s = c.before.before.before in
     let k = s.before.before.before.before.before.before in
     let a = k.before.args in
-    let w = sums_twice a.t.now a.p a.ts _ s.before.before.before.sums.ensures s.sums2.ensures in
-    (sums_small a.t.now a.p a.ts k.shared-slice-known.given 21 _ w (zeros 21), omega arith)
+    let w = sums_twice a.t.now a.p a.ts _ s.before.before.before.sums.ensures s.sums-2.ensures in
+    (sums_small a.t.now a.p a.ts k.shared_slice_known-1.given 21 _ w (zeros 21), omega arith)
 
 returns : tie.Need-returns
 returns c =
@@ -22,9 +22,9 @@ returns c =
     let s = m.before.before.before.before in
     let k = s.before.before.before.before.before.before in
     let a = k.before.args in
-    let w = sums_twice a.t.now a.p a.ts _ s.before.before.before.sums.ensures s.sums2.ensures in
-    stored _ _ _ _ c.before.before.store-wide.ensures m.mid-lanes.ensures (omega arith)
-    ∙ put_ext _ _ _ _ _ (λ i h. mid_centre a.t.now a.p a.ts k.shared-slice-known.given 21 _ w i (omega arith))
+    let w = sums_twice a.t.now a.p a.ts _ s.before.before.before.sums.ensures s.sums-2.ensures in
+    stored _ _ _ _ c.before.before.store_wide.ensures m.mid_lanes.ensures (omega arith)
+    ∙ put_ext _ _ _ _ _ (λ i h. mid_centre a.t.now a.p a.ts k.shared_slice_known-1.given 21 _ w i (omega arith))
 
 pub centre_row_spec : {M : Type 1} → statement M
 centre_row_spec =

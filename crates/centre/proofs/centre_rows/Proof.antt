@@ -9,10 +9,10 @@ use Rattle.samples.proofs.Rows.{row_in, window_at_lem}
 use Rattle.centre.proofs.centre_rows.Statement.{statement}
 use Rattle.centre.proofs.centre_rows.Tie as tie
 
-abbrev invariant-loop : tie.invariant-loop
+abbrev invariant-loop : tie.invariant-loop-r
 invariant-loop t p ts bw bh dst₀ r₀ dst r = Rows dst₀ bw bh (λ c r. centre 255 (window_at t p ts c r)) r dst
 
-abbrev decreases-loop : tie.decreases-loop
+abbrev decreases-loop : tie.decreases-loop-r
 decreases-loop t p ts bw bh dst₀ r₀ dst r = bh - r
 
 pub centre_rows_spec : {M : Type 1} → statement M
@@ -22,13 +22,13 @@ centre_rows_spec =
     invariant-loop
     decreases-loop
     (λ c. rows_none _ _ _ _ (omega arith))
-    (λ c. omega (arith, row_in c.before.before.before.before.args.ts c.before.loop.invariant c.loop-test.true))
-    (λ c. omega (arith, row_in c.before.before.before.before.args.ts c.before.loop.invariant c.loop-test.true))
-    (λ c. omega (arith, row_in 0 c.before.before.loop.invariant c.before.loop-test.true))
-    (λ c κs. omega (arith, row_in c.before.before.before.before.before.args.ts c.before.before.loop.invariant c.before.loop-test.true))
+    (λ c. omega (arith, row_in c.before.before.before.before.args.ts c.before.loop-r.invariant c.loop-r-test.true))
+    (λ c. omega (arith, row_in c.before.before.before.before.args.ts c.before.loop-r.invariant c.loop-r-test.true))
+    (λ c. omega (arith, row_in 0 c.before.before.loop-r.invariant c.before.loop-r-test.true))
+    (λ c κs. omega (arith, row_in c.before.before.before.before.before.args.ts c.before.before.loop-r.invariant c.before.loop-r-test.true))
     (λ c. omega arith)
     (λ c. omega arith)
-    (λ c. rows_more c.before.before.before.before.before.loop.invariant (omega arith) c.before.before.centre-row.ensures
+    (λ c. rows_more c.before.before.before.before.before.loop-r.invariant (omega arith) c.before.before.centre_row.ensures
     (λ x h. ap (centre 255) (window_at_lem _ _ _ _ _ _ _ _ (omega arith))))
     (λ c. omega arith)
-    (λ c. rows_done c.before.loop.invariant (omega arith)))
+    (λ c. rows_done c.before.loop-r.invariant (omega arith)))

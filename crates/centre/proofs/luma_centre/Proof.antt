@@ -13,8 +13,8 @@ luma_centre_spec =
     (tie.spec
     (λ c κs. search rules)
     (λ c κs.
-    let t = (and-eq-true_iff _ _).0 c.before.if1.true in
-    (omega arith, sym c.before.before.is-narrow.ensures ∙ t.0, eqb-true _ _ t.1, omega arith))
+    let t = (and-eq-true_iff _ _).0 c.before.if-is_narrow-bh.true in
+    (omega arith, sym c.before.before.is_narrow.ensures ∙ t.0, eqb-true _ _ t.1, omega arith))
     (λ c. search rules)
     (λ c. search rules)
     (λ c κs. search rules)

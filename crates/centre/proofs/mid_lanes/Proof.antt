@@ -8,10 +8,10 @@ use Rattle.samples.specs.Kernel.{mid_at}
 use Rattle.centre.proofs.mid_lanes.Statement.{statement}
 use Rattle.centre.proofs.mid_lanes.Tie as tie
 
-abbrev invariant-loop : tie.invariant-loop
+abbrev invariant-loop : tie.invariant-loop-i
 invariant-loop w z₀ i₀ z i = Filled z₀ 0 16 (mid_at w) i z
 
-abbrev decreases-loop : tie.decreases-loop
+abbrev decreases-loop : tie.decreases-loop-i
 decreases-loop w z₀ i₀ z i = 16 - i
 
 pub mid_lanes_spec : {M : Type 1} → statement M
@@ -25,6 +25,6 @@ mid_lanes_spec =
     (λ c. omega arith)
     (λ c. omega arith)
     (λ c. omega arith)
-    (λ c. filled_more c.before.before.loop.invariant (omega arith) (sym (zero-add _)) c.mid_at.ensures)
+    (λ c. filled_more c.before.before.loop-i.invariant (omega arith) (sym (zero-add _)) c.mid_at.ensures)
     (λ c. omega arith)
-    (λ c. filled_done c.before.loop.invariant (omega arith)))
+    (λ c. filled_done c.before.loop-i.invariant (omega arith)))

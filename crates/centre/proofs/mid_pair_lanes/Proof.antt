@@ -15,10 +15,10 @@ abbrev pick : List ℕ → List ℕ → ℕ → ℕ → ℕ
 pick v w i zero = mid_at v i
 pick v w i (suc j) = mid_at w i
 
-abbrev invariant-loop : tie.invariant-loop
+abbrev invariant-loop : tie.invariant-loop-i
 invariant-loop v w z₀ i₀ z i = Lanes 2 (pick v w) i 0 z × (length z ≡ length z₀)
 
-abbrev decreases-loop : tie.decreases-loop
+abbrev decreases-loop : tie.decreases-loop-i
 decreases-loop v w z₀ i₀ z i = 8 - i
 
 pub mid_pair_lanes_spec : {M : Type 1} → statement M
@@ -36,13 +36,13 @@ mid_pair_lanes_spec =
     (λ c. omega arith)
     (λ c. omega arith)
     (λ c.
-    let s = c.before.before.before.loop.invariant in (
-      lanes_next (lanes_set (lanes_set s.0 (omega arith) (omega arith) (sym (zero-add _)) c.before.mid_at.ensures) (omega arith) (omega arith) refl c.mid-at2.ensures) (omega arith),
+    let s = c.before.before.before.loop-i.invariant in (
+      lanes_next (lanes_set (lanes_set s.0 (omega arith) (omega arith) (sym (zero-add _)) c.before.mid_at.ensures) (omega arith) (omega arith) refl c.mid_at-in-loop-i.ensures) (omega arith),
       simp length-set s.1,
     ))
-    (λ c. c.before.loop.invariant.1)
+    (λ c. c.before.loop-i.invariant.1)
     (λ c.
-    let s = c.before.loop.invariant.0 in (
-      (λ i h. ap (λ (k : ℕ). get_or c.before.loop.z k 0) (sym (zero-add i)) ∙ lanes_done s (omega arith) 0 i (omega arith) h),
+    let s = c.before.loop-i.invariant.0 in (
+      (λ i h. ap (λ (k : ℕ). get_or c.before.loop-i.z k 0) (sym (zero-add i)) ∙ lanes_done s (omega arith) 0 i (omega arith) h),
       (λ i h. lanes_done s (omega arith) 1 i (omega arith) h),
     )))

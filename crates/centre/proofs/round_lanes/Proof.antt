@@ -8,10 +8,10 @@ use Rattle.grid.proofs.Loop.{Filled, filled_none, filled_more, filled_done}
 use Rattle.centre.proofs.round_lanes.Statement.{statement}
 use Rattle.centre.proofs.round_lanes.Tie as tie
 
-abbrev invariant-loop : tie.invariant-loop
+abbrev invariant-loop : tie.invariant-loop-i
 invariant-loop w z₀ i₀ z i = Filled z₀ 0 16 (λ i. min 255 ((get_or w (i + 2) 0 + 16 - 2550) / 32)) i z
 
-abbrev decreases-loop : tie.decreases-loop
+abbrev decreases-loop : tie.decreases-loop-i
 decreases-loop w z₀ i₀ z i = 16 - i
 
 pub round_lanes_spec : {M : Type 1} → statement M
@@ -28,6 +28,6 @@ round_lanes_spec =
     (λ c. omega arith)
     (λ c. omega arith)
     (λ c. omega arith)
-    (λ c. filled_more c.before.before.before.loop.invariant (omega arith) (sym (zero-add _)) c.round5.ensures)
+    (λ c. filled_more c.before.before.before.loop-i.invariant (omega arith) (sym (zero-add _)) c.round5.ensures)
     (λ c. omega arith)
-    (λ c. filled_done c.before.loop.invariant (omega arith)))
+    (λ c. filled_done c.before.loop-i.invariant (omega arith)))

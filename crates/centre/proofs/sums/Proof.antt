@@ -7,10 +7,10 @@ use Rattle.centre.proofs.Unrounded.{sums}
 use Rattle.centre.proofs.sums.Statement.{statement}
 use Rattle.centre.proofs.sums.Tie as tie
 
-abbrev invariant-loop : tie.invariant-loop
+abbrev invariant-loop : tie.invariant-loop-i
 invariant-loop t p ts n w₀ o i₀ w i = Filled w₀ o n (sums t p ts) i w
 
-abbrev decreases-loop : tie.decreases-loop
+abbrev decreases-loop : tie.decreases-loop-i
 decreases-loop t p ts n w₀ o i₀ w i = n - i
 
 pub sums_spec : {M : Type 1} → statement M
@@ -27,6 +27,6 @@ sums_spec =
     (λ c. omega arith)
     (λ c. omega arith)
     (λ c. omega arith)
-    (λ c. filled_more c.before.before.loop.invariant (omega arith) refl c.sum6.ensures.0)
+    (λ c. filled_more c.before.before.loop-i.invariant (omega arith) refl c.sum6.ensures.0)
     (λ c. omega arith)
-    (λ c. filled_done c.before.loop.invariant (omega arith)))
+    (λ c. filled_done c.before.loop-i.invariant (omega arith)))

@@ -9,10 +9,10 @@ use Rattle.samples.specs.Tap.{half}
 use Rattle.halves.proofs.half_lanes.Statement.{statement}
 use Rattle.halves.proofs.half_lanes.Tie as tie
 
-abbrev invariant-loop : tie.invariant-loop
+abbrev invariant-loop : tie.invariant-loop-i
 invariant-loop t p s z₀ i₀ z i = Filled z₀ 0 16 (λ i. half 255 (from t (p + i) s)) i z
 
-abbrev decreases-loop : tie.decreases-loop
+abbrev decreases-loop : tie.decreases-loop-i
 decreases-loop t p s z₀ i₀ z i = 16 - i
 
 pub half_lanes_spec : {M : Type 1} → statement M
@@ -27,6 +27,6 @@ half_lanes_spec =
     (λ c. omega arith)
     (λ c. omega arith)
     (λ c. omega arith)
-    (λ c. filled_more c.before.before.loop.invariant (omega arith) (sym (zero-add _)) c.tap6.ensures)
+    (λ c. filled_more c.before.before.loop-i.invariant (omega arith) (sym (zero-add _)) c.tap6.ensures)
     (λ c. omega arith)
-    (λ c. filled_done c.before.loop.invariant (omega arith)))
+    (λ c. filled_done c.before.loop-i.invariant (omega arith)))

@@ -8,7 +8,7 @@ returns : tie.Need-returns
 returns c =
     let f = c.before.before in
     let l = f.before.before.before.before in
-    stored_group _ l.half-pair-lanes.new.1.1.1.1.0 _ f.store_pair.ensures l.half-pair-lanes.ensures
+    stored_group _ l.half_pair_lanes.new.z _ f.store_pair.ensures l.half_pair_lanes.ensures
     (narrow_small _ l.before.before.before.before.requires.1)
 
 pub half_pair_spec : {M : Type 1} → statement M

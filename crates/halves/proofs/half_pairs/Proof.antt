@@ -9,10 +9,10 @@ use Rattle.halves.proofs.Pairs.{pair_in, half_at}
 use Rattle.halves.proofs.half_pairs.Statement.{statement}
 use Rattle.halves.proofs.half_pairs.Tie as tie
 
-abbrev invariant-loop : tie.invariant-loop
+abbrev invariant-loop : tie.invariant-loop-k
 invariant-loop t p ts s bw bh dst₀ n k₀ dst k = Rows dst₀ bw bh (λ c r. half 255 (from t (p + r * ts + c) s)) (2 * k) dst
 
-abbrev decreases-loop : tie.decreases-loop
+abbrev decreases-loop : tie.decreases-loop-k
 decreases-loop t p ts s bw bh dst₀ n k₀ dst k = bh / 2 - k
 
 pub half_pairs_spec : {M : Type 1} → statement M
@@ -23,16 +23,16 @@ half_pairs_spec =
     decreases-loop
     (λ c. rows_none _ _ _ _ (omega arith))
     (λ c. omega arith)
-    (λ c. omega (arith, pair_in c.before.before.before.before.args.ts c.before.loop.invariant (omega arith)))
-    (λ c. omega (arith, pair_in c.before.before.before.before.args.ts c.before.loop.invariant (omega arith)))
-    (λ c. omega (arith, pair_in 0 c.before.before.loop.invariant (omega arith)))
+    (λ c. omega (arith, pair_in c.before.before.before.before.args.ts c.before.loop-k.invariant (omega arith)))
+    (λ c. omega (arith, pair_in c.before.before.before.before.args.ts c.before.loop-k.invariant (omega arith)))
+    (λ c. omega (arith, pair_in 0 c.before.before.loop-k.invariant (omega arith)))
     (λ c κs.
     let l = c.before.before in
     let k = l.before.before.before in
-    (omega (arith, pair_in k.args.ts l.loop.invariant (omega arith)), k.requires.1, omega (arith, pair_in 0 l.loop.invariant (omega arith))))
+    (omega (arith, pair_in k.args.ts l.loop-k.invariant (omega arith)), k.requires.1, omega (arith, pair_in 0 l.loop-k.invariant (omega arith))))
     (λ c. omega arith)
     (λ c. omega arith)
-    (λ c. rows_group c.before.before.before.before.before.loop.invariant (omega arith) c.before.before.half-pair.ensures
+    (λ c. rows_group c.before.before.before.before.before.loop-k.invariant (omega arith) c.before.before.half_pair.ensures
     (λ x j a b. half_at _ _ (omega arith)) (omega arith))
     (λ c. omega arith)
-    (λ c. rows_done c.before.loop.invariant (omega arith)))
+    (λ c. rows_done c.before.loop-k.invariant (omega arith)))

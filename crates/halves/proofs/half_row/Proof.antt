@@ -13,4 +13,4 @@ half_row_spec =
     (λ c κs. search rules)
     (λ c κs. search rules)
     (λ c. search rules)
-    (λ c. stored _ _ _ _ c.before.before.store.ensures c.before.before.before.before.before.before.half-lanes.ensures (omega arith)))
+    (λ c. stored _ _ _ _ c.before.before.store.ensures c.before.before.before.before.before.before.half_lanes.ensures (omega arith)))

@@ -9,10 +9,10 @@ use Rattle.samples.proofs.Rows.{row_in}
 use Rattle.halves.proofs.half_rows.Statement.{statement}
 use Rattle.halves.proofs.half_rows.Tie as tie
 
-abbrev invariant-loop : tie.invariant-loop
+abbrev invariant-loop : tie.invariant-loop-r
 invariant-loop t p ts s bw bh dst₀ r₀ dst r = Rows dst₀ bw bh (λ c r. half 255 (from t (p + r * ts + c) s)) r dst
 
-abbrev decreases-loop : tie.decreases-loop
+abbrev decreases-loop : tie.decreases-loop-r
 decreases-loop t p ts s bw bh dst₀ r₀ dst r = bh - r
 
 pub half_rows_spec : {M : Type 1} → statement M
@@ -22,12 +22,12 @@ half_rows_spec =
     invariant-loop
     decreases-loop
     (λ c. rows_none _ _ _ _ (omega arith))
-    (λ c. omega (arith, row_in c.before.before.before.before.args.ts c.before.loop.invariant c.loop-test.true))
-    (λ c. omega (arith, row_in c.before.before.before.before.args.ts c.before.loop.invariant c.loop-test.true))
-    (λ c. omega (arith, row_in 0 c.before.before.loop.invariant c.before.loop-test.true))
-    (λ c κs. omega (arith, row_in c.before.before.before.before.before.args.ts c.before.before.loop.invariant c.before.loop-test.true))
+    (λ c. omega (arith, row_in c.before.before.before.before.args.ts c.before.loop-r.invariant c.loop-r-test.true))
+    (λ c. omega (arith, row_in c.before.before.before.before.args.ts c.before.loop-r.invariant c.loop-r-test.true))
+    (λ c. omega (arith, row_in 0 c.before.before.loop-r.invariant c.before.loop-r-test.true))
+    (λ c κs. omega (arith, row_in c.before.before.before.before.before.args.ts c.before.before.loop-r.invariant c.before.loop-r-test.true))
     (λ c. omega arith)
     (λ c. omega arith)
-    (λ c. rows_more c.before.before.before.before.before.loop.invariant (omega arith) c.before.before.half-row.ensures (λ x h. refl))
+    (λ c. rows_more c.before.before.before.before.before.loop-r.invariant (omega arith) c.before.before.half_row.ensures (λ x h. refl))
     (λ c. omega arith)
-    (λ c. rows_done c.before.loop.invariant (omega arith)))
+    (λ c. rows_done c.before.loop-r.invariant (omega arith)))

@@ -11,10 +11,10 @@ use Rattle.samples.specs.Tap.{half, mean}
 use Rattle.halves.proofs.mixed_lanes.Statement.{statement}
 use Rattle.halves.proofs.mixed_lanes.Tie as tie
 
-abbrev invariant-loop : tie.invariant-loop
+abbrev invariant-loop : tie.invariant-loop-i
 invariant-loop t p s a q z₀ i₀ z i = Filled z₀ 0 16 (λ i. mean (get_or a (q + i) 0) (half 255 (from t (p + i) s))) i z
 
-abbrev decreases-loop : tie.decreases-loop
+abbrev decreases-loop : tie.decreases-loop-i
 decreases-loop t p s a q z₀ i₀ z i = 16 - i
 
 pub mixed_lanes_spec : {M : Type 1} → statement M
@@ -32,6 +32,6 @@ mixed_lanes_spec =
     (λ c. omega arith)
     (λ c. omega arith)
     (λ c. omega arith)
-    (λ c. filled_more c.before.before.before.before.loop.invariant (omega arith) (sym (zero-add _)) (c.avg2.ensures ∙ ap (mean _) c.before.tap6.ensures))
+    (λ c. filled_more c.before.before.before.before.loop-i.invariant (omega arith) (sym (zero-add _)) (c.avg2.ensures ∙ ap (mean _) c.before.tap6.ensures))
     (λ c. omega arith)
-    (λ c. filled_done c.before.loop.invariant (omega arith)))
+    (λ c. filled_done c.before.loop-i.invariant (omega arith)))

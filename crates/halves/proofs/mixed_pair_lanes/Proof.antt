@@ -10,19 +10,19 @@ use Rattle.halves.proofs.Pairs.{Pair, pair_none, pair_more, pair_done, mixed_at}
 use Rattle.halves.proofs.mixed_pair_lanes.Statement.{statement}
 use Rattle.halves.proofs.mixed_pair_lanes.Tie as tie
 
-abbrev invariant-loop : tie.invariant-loop
+abbrev invariant-loop : tie.invariant-loop-i
 invariant-loop t p ts s a q qs z₀ i₀ z i = Pair z₀ (λ c r. mean (get_or a (q + r * qs + c) 0) (half 255 (from t (p + r * ts + c) s))) i z
 
-abbrev decreases-loop : tie.decreases-loop
+abbrev decreases-loop : tie.decreases-loop-i
 decreases-loop t p ts s a q qs z₀ i₀ z i = 8 - i
 
-again : tie.Need-loop-preserved invariant-loop decreases-loop
+again : tie.Need-loop-i-preserved invariant-loop decreases-loop
 again c =
     let u = c.before.before.before in
     let l = u.before.before.before.before in
     let a = l.before.before.before.before.args.a.now in
-    pair_more l.loop.invariant (omega arith) refl (u.avg2.ensures ∙ ap (mean _) u.before.tap6.ensures ∙ mixed_at _ _ a (omega arith) (omega arith))
-    (c.avg22.ensures ∙ ap (mean _) c.before.tap62.ensures ∙ mixed_at _ _ a (omega arith) (omega arith))
+    pair_more l.loop-i.invariant (omega arith) refl (u.avg2.ensures ∙ ap (mean _) u.before.tap6.ensures ∙ mixed_at _ _ a (omega arith) (omega arith))
+    (c.avg2-in-loop-i.ensures ∙ ap (mean _) c.before.tap6-in-loop-i.ensures ∙ mixed_at _ _ a (omega arith) (omega arith))
 
 pub mixed_pair_lanes_spec : {M : Type 1} → statement M
 mixed_pair_lanes_spec =
@@ -50,4 +50,4 @@ mixed_pair_lanes_spec =
     (λ c. omega arith)
     again
     (λ c. omega arith)
-    (λ c. pair_done c.before.loop.invariant (omega arith)))
+    (λ c. pair_done c.before.loop-i.invariant (omega arith)))

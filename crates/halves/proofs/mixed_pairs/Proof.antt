@@ -10,16 +10,16 @@ use Rattle.halves.proofs.Pairs.{pair_in, mixed_at}
 use Rattle.halves.proofs.mixed_pairs.Statement.{statement}
 use Rattle.halves.proofs.mixed_pairs.Tie as tie
 
-abbrev invariant-loop : tie.invariant-loop
+abbrev invariant-loop : tie.invariant-loop-k
 invariant-loop t p ts s a q qs bw bh dst₀ n k₀ dst k = Rows dst₀ bw bh (λ c r. mean (get_or a (q + r * qs + c) 0) (half 255 (from t (p + r * ts + c) s))) (2 * k) dst
 
-abbrev decreases-loop : tie.decreases-loop
+abbrev decreases-loop : tie.decreases-loop-k
 decreases-loop t p ts s a q qs bw bh dst₀ n k₀ dst k = bh / 2 - k
 
-again : tie.Need-loop-preserved invariant-loop decreases-loop
+again : tie.Need-loop-k-preserved invariant-loop decreases-loop
 again c =
     let l = c.before.before.before.before.before in
-    rows_group l.loop.invariant (omega arith) c.before.before.mixed-pair.ensures
+    rows_group l.loop-k.invariant (omega arith) c.before.before.mixed_pair.ensures
     (λ x j _ _. mixed_at _ _ l.before.before.before.before.args.a.now (omega arith) (omega arith)) (omega arith)
 
 pub mixed_pairs_spec : {M : Type 1} → statement M
@@ -30,21 +30,21 @@ mixed_pairs_spec =
     decreases-loop
     (λ c. rows_none _ _ _ _ (omega arith))
     (λ c. omega arith)
-    (λ c. omega (arith, pair_in c.before.before.before.before.before.args.ts c.before.loop.invariant (omega arith)))
-    (λ c. omega (arith, pair_in c.before.before.before.before.before.args.ts c.before.loop.invariant (omega arith)))
-    (λ c. omega (arith, pair_in c.before.before.before.before.before.args.qs c.before.loop.invariant (omega arith)))
-    (λ c. omega (arith, pair_in c.before.before.before.before.before.args.qs c.before.loop.invariant (omega arith)))
-    (λ c. omega (arith, pair_in 0 c.before.before.loop.invariant (omega arith)))
+    (λ c. omega (arith, pair_in c.before.before.before.before.before.args.ts c.before.loop-k.invariant (omega arith)))
+    (λ c. omega (arith, pair_in c.before.before.before.before.before.args.ts c.before.loop-k.invariant (omega arith)))
+    (λ c. omega (arith, pair_in c.before.before.before.before.before.args.qs c.before.loop-k.invariant (omega arith)))
+    (λ c. omega (arith, pair_in c.before.before.before.before.before.args.qs c.before.loop-k.invariant (omega arith)))
+    (λ c. omega (arith, pair_in 0 c.before.before.loop-k.invariant (omega arith)))
     (λ c κs.
     let l = c.before.before in
     let k = l.before.before.before.before in (
-      omega (arith, pair_in k.args.ts l.loop.invariant (omega arith)),
-      omega (arith, pair_in k.args.qs l.loop.invariant (omega arith)),
+      omega (arith, pair_in k.args.ts l.loop-k.invariant (omega arith)),
+      omega (arith, pair_in k.args.qs l.loop-k.invariant (omega arith)),
       k.requires.2,
-      omega (arith, pair_in 0 l.loop.invariant (omega arith)),
+      omega (arith, pair_in 0 l.loop-k.invariant (omega arith)),
     ))
     (λ c. omega arith)
     (λ c. omega arith)
     again
     (λ c. omega arith)
-    (λ c. rows_done c.before.loop.invariant (omega arith)))
+    (λ c. rows_done c.before.loop-k.invariant (omega arith)))

@@ -13,4 +13,4 @@ mixed_row_spec =
     (λ c κs. search rules)
     (λ c κs. search rules)
     (λ c. search rules)
-    (λ c. stored _ _ _ _ c.before.before.store.ensures c.before.before.before.before.before.before.mixed-lanes.ensures (omega arith)))
+    (λ c. stored _ _ _ _ c.before.before.store.ensures c.before.before.before.before.before.before.mixed_lanes.ensures (omega arith)))

@@ -7,7 +7,7 @@ use Rattle.hpel.proofs.Laws.{first_up}
 use Rattle.hpel.proofs.first_at.Statement.{statement}
 use Rattle.hpel.proofs.first_at.Tie as tie
 
-rows : (c : tie.After-struct-known) → let a = c.before.args in (a.y - 536870912 + a.a.dy) * a.pw ≤ 2147483648 * 8448
+rows : (c : tie.After-struct_known-1) → let a = c.before.args in (a.y - 536870912 + a.a.dy) * a.pw ≤ 2147483648 * 8448
 rows c = let a = c.before.args in area 2147483648 (a.y - 536870912 + a.a.dy) a.pw 8448 (omega arith) (omega arith)
 
 pub first_at_spec : {M : Type 1} → statement M

@@ -16,36 +16,36 @@ use Rattle.hpel.proofs.Laws.{first_asks, order_near, two_refused, two_served}
 use Rattle.hpel.proofs.hpel_qpel_refs_at.Statement.{statement}
 use Rattle.hpel.proofs.hpel_qpel_refs_at.Tie as tie
 
-abbrev entry : tie.After-check-qpel → tie.Start
+abbrev entry : tie.After-check_qpel-no → tie.Start
 entry k = k.before.before.before.before.before
 
-answer : (k : tie.After-check-qpel) → let a = (entry k).args in
-    k.check-qpel.result
+answer : (k : tie.After-check_qpel-no) → let a = (entry k).args in
+    k.check_qpel-no.result
     ≡ qpel_refusal (length a.f.now) (length a.h.now) (length a.v.now) (length a.c.now) a.cw a.ch a.pad a.x0 a.y0 a.bw a.bh a.mvx a.mvy
-answer k = let s = entry k in simp (to_z-of_z s.fits.mvx, to_z-of_z s.fits.mvy) at k.check-qpel.ensures
+answer k = let s = entry k in simp (to_z-of_z s.ranges.mvx, to_z-of_z s.ranges.mvy) at k.check_qpel-no.ensures
 
 -- nothing was refused
-ok : (c : tie.Else1) → let a = (entry c.before).args in
+ok : (c : tie.Else-no-ne-DONE) → let a = (entry c.before).args in
     Ok (length a.f.now) (length a.h.now) (length a.v.now) (length a.c.now) a.cw a.ch a.pad a.x0 a.y0 a.bw a.bh a.mvx a.mvy
-ok c = let s = entry c.before in qpel_ok _ _ _ _ _ _ _ _ _ _ _ _ _ s.fits.mvx.sfits s.fits.mvy.sfits (sym c.if1.false ∙ answer c.before)
+ok c = let s = entry c.before in qpel_ok _ _ _ _ _ _ _ _ _ _ _ _ _ s.ranges.mvx.sfits s.ranges.mvy.sfits (sym c.if-no-ne-DONE.false ∙ answer c.before)
 
 -- the anchors in order, and the place
-looked : (k : tie.After-in-order) → let a = (entry k.before.before.before.before.before).args in
-    k.in_order.result ≡ in_order (phase_of (phase a.mvx 4) (phase a.mvy 4))
+looked : (k : tie.After-in_order-k) → let a = (entry k.before.before.before.before.before).args in
+    k.in_order-k.result ≡ in_order (phase_of (phase a.mvx 4) (phase a.mvy 4))
 looked k =
     let f = k.before.before in
     let s = entry f.before.before.before in
-    k.in_order.ensures
-    ∙ ap in_order (k.before.phase-at.ensures ∙ ap₂ phase_of (simp (to_z-of_z s.fits.mvx) at f.before.luma-phase.ensures.0) (simp (to_z-of_z s.fits.mvy) at f.luma-phase2.ensures.0))
+    k.in_order-k.ensures
+    ∙ ap in_order (k.before.phase_at.ensures ∙ ap₂ phase_of (simp (to_z-of_z s.ranges.mvx) at f.before.luma_phase.ensures.0) (simp (to_z-of_z s.ranges.mvy) at f.luma_phase-2.ensures.0))
 
-near : (k : tie.After-in-order) → Near k.in_order.result.p × Near k.in_order.result.q
-near k = rw (k.in_order.ensures, k.before.phase-at.ensures) (order_near _ (phase_near _ _))
+near : (k : tie.After-in_order-k) → Near k.in_order-k.result.p × Near k.in_order-k.result.q
+near k = rw (k.in_order-k.ensures, k.before.phase_at.ensures) (order_near _ (phase_near _ _))
 
-spot : (k : tie.After-luma-at2) → let a = (entry k.before.before.before.before.before.before.before.before.before).args in
-    (k.before.luma-at.result ≡ a.x0 + up (2 ^ 31) a.mvx / 4) × (k.luma-at2.result ≡ a.y0 + up (2 ^ 31) a.mvy / 4)
+spot : (k : tie.After-luma_at-2) → let a = (entry k.before.before.before.before.before.before.before.before.before).args in
+    (k.before.luma_at.result ≡ a.x0 + up (2 ^ 31) a.mvx / 4) × (k.luma_at-2.result ≡ a.y0 + up (2 ^ 31) a.mvy / 4)
 spot k =
     let s = entry k.before.before.before.before.before.before.before.before.before in
-    (simp (to_z-of_z s.fits.mvx) at k.before.luma-at.ensures.0, simp (to_z-of_z s.fits.mvy) at k.luma-at2.ensures.0)
+    (simp (to_z-of_z s.ranges.mvx) at k.before.luma_at.ensures.0, simp (to_z-of_z s.ranges.mvy) at k.luma_at-2.ensures.0)
 
 pub hpel_qpel_refs_at_spec : {M : Type 1} → statement M
 unfolding qpel_at
@@ -53,7 +53,7 @@ hpel_qpel_refs_at_spec =
     tie.close
     (tie.spec
     (λ c κs. search rules)
-    (λ c. two_refused _ _ _ _ _ _ (answer c.before) c.if1.true)
+    (λ c. two_refused _ _ _ _ _ _ (answer c.before) c.if-no-ne-DONE.true)
     (λ c κs. search rules)
     (λ c κs. search rules)
     (λ c κs. search rules)
@@ -68,14 +68,14 @@ hpel_qpel_refs_at_spec =
     (λ c. search rules)
     (λ c κs.
     let l = c.before.before.before.before.before.before in
-    let k = c.before.before in first_asks _ _ _ _ _ _ _ _ _ _ _ (spot k).0 (spot k).1 (ok l.before.before.before.before) l.in_order.result.p (near l).0)
+    let k = c.before.before in first_asks _ _ _ _ _ _ _ _ _ _ _ (spot k).0 (spot k).1 (ok l.before.before.before.before) l.in_order-k.result.p (near l).0)
     (λ c κs.
     let l = c.before.before.before.before.before.before.before in
-    let k = c.before.before.before in first_asks _ _ _ _ _ _ _ _ _ _ _ (spot k).0 (spot k).1 (ok l.before.before.before.before) l.in_order.result.q (near l).1)
+    let k = c.before.before.before in first_asks _ _ _ _ _ _ _ _ _ _ _ (spot k).0 (spot k).1 (ok l.before.before.before.before) l.in_order-k.result.q (near l).1)
     (λ c.
     let k = c.before.before.before.before in
     let l = k.before.before.before.before in
     let o = l.before.before.before.before in
     let s = entry o.before in
-    two_served _ _ (sym o.if1.false ∙ answer o.before) (place_is _ _ _ s.fits.mvx.sfits (spot k).0) (place_is _ _ _ s.fits.mvy.sfits (spot k).1)
-    (looked l) c.before.first-at.ensures c.first-at2.ensures))
+    two_served _ _ (sym o.if-no-ne-DONE.false ∙ answer o.before) (place_is _ _ _ s.ranges.mvx.sfits (spot k).0) (place_is _ _ _ s.ranges.mvy.sfits (spot k).1)
+    (looked l) c.before.first_at.ensures c.first_at-2.ensures))

@@ -6,4 +6,4 @@ use Rattle.hpel.proofs.in_order.Tie as tie
 
 pub in_order_spec : {M : Type 1} → statement M
 unfolding in_order
-in_order_spec = tie.close (tie.spec (λ c. simp (lt-ltb _ _ c.if1.true)) (λ c. simp (le-ltb _ _ c.if1.false)))
+in_order_spec = tie.close (tie.spec (λ c. simp (lt-ltb _ _ c.if-q-p.true)) (λ c. simp (le-ltb _ _ c.if-q-p.false)))

@@ -16,4 +16,4 @@ tail_spec =
     (λ c. search rules)
     (λ c. search rules)
     (λ c. tail_in c.before.before.args.p.now c.before.before.args.at)
-    (λ c. sym (drop_of_length-le _ (le_of_lt c.before.if1.false))))
+    (λ c. sym (drop_of_length-le _ (le_of_lt c.if-at-p.false))))

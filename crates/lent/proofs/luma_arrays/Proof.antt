@@ -11,7 +11,7 @@ returns : tie.Need-returns
 returns c =
     let f = c.before.before in
     let s = f.before.before.before.before.before.before.before in
-    let e = simp (to_z-of_z s.ranges.mvx, to_z-of_z s.ranges.mvy) at f.mc-luma-padded-slices.ensures in
+    let e = simp (to_z-of_z s.ranges.mvx, to_z-of_z s.ranges.mvy) at f.mc_luma_padded_slices.ensures in
     record { answer = e.0 ∙ long_scratch _ _ _ _ _ _ _ _ _ _ _ _ _ (search rules) (search rules) (search rules); block = e.1; tile = e.2; first = e.3; second = e.4 }
 
 pub luma_arrays_spec : {M : Type 1} → statement M

@@ -18,4 +18,4 @@ avg_row_into_spec =
     (λ c. ((search refusing depth 12), refl))
     (λ c κs. omega arith)
     (λ c. search rules)
-    (λ c. ((search refusing depth 12), c.before.before.avg-run.ensures ∙ run_row _ _ _ _)))
+    (λ c. ((search refusing depth 12), c.before.before.avg_run.ensures ∙ run_row _ _ _ _)))

@@ -15,13 +15,13 @@ use Rattle.luma.proofs.mc_luma.Statement.{statement}
 use Rattle.luma.proofs.mc_luma.Tie as tie
 
 -- nothing was refused
-ok : (c : tie.Else1) → let a = c.before.before.before.before.args in
+ok : (c : tie.Else-no-ne-DONE) → let a = c.before.before.before.before.args in
     PlaneOk (length a.reference.now) a.cw a.ch × BlockOk 16 a.x0 a.y0 a.bw a.bh (length a.out.now)
-ok c = plain_block_ok _ _ _ _ _ _ _ _ _ (sym c.if1.false ∙ c.before.check-plain-block.ensures)
+ok c = plain_block_ok _ _ _ _ _ _ _ _ _ (sym c.if-no-ne-DONE.false ∙ c.before.check_plain_block-no.ensures)
 
 -- the samples nearest to the windows' places are the standard's
-predicted : (y : tie.After-luma-phase2) → let x = y.before in let k = x.before.before.before in let a = k.before.before.before.before.args in
-    drawn a.out.now a.bw a.bh (luma_near a.reference.now 0 a.cw a.cw a.ch x.before.before.luma-at.result x.before.luma-at2.result x.luma-phase.result y.luma-phase2.result)
+predicted : (y : tie.After-luma_phase-fy) → let x = y.before in let k = x.before.before.before in let a = k.before.before.before.before.args in
+    drawn a.out.now a.bw a.bh (luma_near a.reference.now 0 a.cw a.cw a.ch x.before.before.luma_at-x.result x.before.luma_at-y.result x.luma_phase-fx.result y.luma_phase-fy.result)
     ≡ drawn a.out.now a.bw a.bh (predicted_luma a.reference.now a.cw a.ch a.x0 a.y0 a.mvx a.mvy)
 predicted y =
     let x = y.before in
@@ -30,29 +30,29 @@ predicted y =
     let s = u.before.before.before.before.before in
     let a = s.args in
     near_predicted a.out.now a.reference.now a.cw a.ch a.x0 a.y0 a.bw a.bh a.mvx a.mvy s.ranges.mvx.sfits s.ranges.mvy.sfits
-    (simp (to_z-of_z s.ranges.mvx) at u.luma-at.ensures.0) (simp (to_z-of_z s.ranges.mvy) at v.luma-at2.ensures.0)
-    (simp (to_z-of_z s.ranges.mvx) at x.luma-phase.ensures.0) (simp (to_z-of_z s.ranges.mvy) at y.luma-phase2.ensures.0)
+    (simp (to_z-of_z s.ranges.mvx) at u.luma_at-x.ensures.0) (simp (to_z-of_z s.ranges.mvy) at v.luma_at-y.ensures.0)
+    (simp (to_z-of_z s.ranges.mvx) at x.luma_phase-fx.ensures.0) (simp (to_z-of_z s.ranges.mvy) at y.luma_phase-fy.ensures.0)
 
-returns-2 : tie.Need-returns-2
+returns-2 : tie.Need-returns-then-fx-fy-eq0
 returns-2 c =
     let f = c.before.before in
     let i = f.before.before in
     let y = i.before in
     let k = y.before.before.before.before in
     let a = k.before.before.before.before.args in (
-      sym k.if1.false ∙ k.before.check-plain-block.ensures,
-      f.predict-full.ensures
-          ∙ full_luma a.out.now a.reference.now 0 a.cw a.cw a.ch _ _ _ _ a.bw a.bh i.if2.true
+      sym k.if-no-ne-DONE.false ∙ k.before.check_plain_block-no.ensures,
+      f.predict_full.ensures
+          ∙ full_luma a.out.now a.reference.now 0 a.cw a.cw a.ch _ _ _ _ a.bw a.bh i.if-fx-fy-eq0.true
           ∙ predicted y,
     )
 
-returns-3 : tie.Need-returns-3
+returns-3 : tie.Need-returns
 returns-3 c =
     let f = c.before.before in
     let y = f.before.before.before in
     let k = y.before.before.before.before in (
-      sym k.if1.false ∙ k.before.check-plain-block.ensures,
-      f.predict-luma.ensures ∙ predicted y,
+      sym k.if-no-ne-DONE.false ∙ k.before.check_plain_block-no.ensures,
+      f.predict_luma.ensures ∙ predicted y,
     )
 
 pub mc_luma_spec : {M : Type 1} → statement M
@@ -60,7 +60,7 @@ mc_luma_spec =
     tie.close
     (tie.spec
     (λ c κs. search rules)
-    (λ c. (c.before.check-plain-block.ensures, kept _ _ _ c.if1.true))
+    (λ c. (c.before.check_plain_block-no.ensures, kept _ _ _ c.if-no-ne-DONE.true))
     (λ c κs. omega (arith, ok c))
     (λ c κs. omega (arith, ok c.before))
     (λ c κs. search rules)

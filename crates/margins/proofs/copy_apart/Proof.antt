@@ -8,10 +8,10 @@ use Rattle.margins.proofs.Put.{filled_rest, each_apart}
 use Rattle.margins.proofs.copy_apart.Statement.{statement}
 use Rattle.margins.proofs.copy_apart.Tie as tie
 
-abbrev invariant-loop : tie.invariant-loop
+abbrev invariant-loop : tie.invariant-loop-i
 invariant-loop buf₀ from to n i₀ buf i = Filled buf₀ to n (λ i. get_or buf₀ (from + i) 0) i buf
 
-abbrev decreases-loop : tie.decreases-loop
+abbrev decreases-loop : tie.decreases-loop-i
 decreases-loop buf₀ from to n i₀ buf i = n - i
 
 pub copy_apart_spec : {M : Type 1} → statement M
@@ -29,6 +29,6 @@ copy_apart_spec =
     (λ c. omega arith)
     (λ c.
     let l = c.before.before in
-    filled_more l.loop.invariant (omega arith) refl (filled_rest l.loop.invariant _ (each_apart _ _ _ _ l.before.requires.2 _ (omega arith))))
+    filled_more l.loop-i.invariant (omega arith) refl (filled_rest l.loop-i.invariant _ (each_apart _ _ _ _ l.before.requires.2 _ (omega arith))))
     (λ c. omega arith)
-    (λ c. filled_done c.before.loop.invariant (omega arith)))
+    (λ c. filled_done c.before.loop-i.invariant (omega arith)))

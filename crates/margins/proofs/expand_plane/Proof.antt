@@ -10,7 +10,7 @@ expand_plane_spec =
     tie.close
     (tie.spec
     (λ c κs. search rules)
-    (λ c. (c.before.check-padded.ensures, kept c.before.check-padded.result _ _ (λ e. omega arith)))
+    (λ c. (c.before.check_padded-no.ensures, kept c.before.check_padded-no.result _ _ (λ e. omega arith)))
     (λ c κs. search rules)
     (λ c. search rules)
     (λ c. search rules))

@@ -12,13 +12,13 @@ use Rattle.margins.proofs.fill_margins.Tie as tie
 ok : (c : tie.Start) → let a = c.args in PaddedOk (length a.buf.now) a.w a.h a.pad a.stride
 ok c = padded_ok _ _ _ _ _ c.requires
 
-abbrev first : (c : tie.After-fill-rows-arg) → tie.Start
+abbrev first : (c : tie.After-fill_rows-arg-1) → tie.Start
 first c = c.before.before
 
-abbrev second : (c : tie.After-copy-rows-arg) → tie.Start
+abbrev second : (c : tie.After-copy_rows-arg-1) → tie.Start
 second c = first c.before.before.before.before
 
-abbrev third : (c : tie.After-copy-rows-arg2) → tie.Start
+abbrev third : (c : tie.After-copy_rows-arg-2-1) → tie.Start
 third c = second c.before.before.before.before
 
 pub fill_margins_spec : {M : Type 1} → statement M
@@ -41,4 +41,4 @@ fill_margins_spec =
     let d2 = d3.before.before.before.before in
     let d1 = d2.before.before.before.before in
     let p = ok (first d1.before) in
-    expanded_is _ _ _ _ _ _ _ _ p.h1 p.src d1.fill-rows.ensures d2.copy-rows.ensures d3.copy-rows2.ensures))
+    expanded_is _ _ _ _ _ _ _ _ p.h1 p.src d1.fill_rows.ensures d2.copy_rows.ensures d3.copy_rows-2.ensures))

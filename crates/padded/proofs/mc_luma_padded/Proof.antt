@@ -9,20 +9,20 @@ use Rattle.padded.proofs.mc_luma_padded.Statement.{statement}
 use Rattle.padded.proofs.mc_luma_padded.Tie as tie
 
 -- nothing was refused
-ok : (c : tie.Else1) → let a = c.before.before.before.before.args in
+ok : (c : tie.Else-no-ne-DONE) → let a = c.before.before.before.before.args in
     PaddedOk (length a.padded.now) a.g.pw a.g.ph a.g.pad a.g.stride × BlockOk 16 a.x0 a.y0 a.bw a.bh (length a.out.now)
-ok c = padded_block_ok _ _ _ _ _ _ _ _ _ _ _ (sym c.if1.false ∙ c.before.check.ensures)
+ok c = padded_block_ok _ _ _ _ _ _ _ _ _ _ _ (sym c.if-no-ne-DONE.false ∙ c.before.check-no.ensures)
 
 pub mc_luma_padded_spec : {M : Type 1} → statement M
 mc_luma_padded_spec =
     tie.close
     (tie.spec
     (λ c κs. search rules)
-    (λ c. (c.before.check.ensures, kept _ _ _ c.if1.true))
+    (λ c. (c.before.check-no.ensures, kept _ _ _ c.if-no-ne-DONE.true))
     (λ c κs. omega (arith, ok c.before))
     (λ c. search rules)
     (λ c.
     let f = c.before.before in
     let k = f.before.before in
     let s = k.before.before.before.before in
-    (sym k.if1.false ∙ k.before.check.ensures, simp (to_z-of_z s.ranges.mvx, to_z-of_z s.ranges.mvy) at f.luma-block.ensures)))
+    (sym k.if-no-ne-DONE.false ∙ k.before.check-no.ensures, simp (to_z-of_z s.ranges.mvx, to_z-of_z s.ranges.mvy) at f.luma_block.ensures)))

@@ -28,16 +28,16 @@ mc_luma_padded_slices_spec =
     tie.close
     (tie.spec
     (λ c κs. search rules)
-    (λ c. let r = c.if1.true in (c.before.check-lent.ensures, kept _ _ _ r, kept _ _ _ r, kept _ _ _ r, kept _ _ _ r))
-    (λ c κs. let k = c.before.before in omega (arith, slices_ok _ _ _ _ _ _ _ _ _ _ _ _ _ (sym k.if1.false ∙ k.before.check-lent.ensures)))
+    (λ c. let r = c.if-no-ne-DONE.true in (c.before.check_lent-no.ensures, kept _ _ _ r, kept _ _ _ r, kept _ _ _ r, kept _ _ _ r))
+    (λ c κs. let k = c.before.before in omega (arith, slices_ok _ _ _ _ _ _ _ _ _ _ _ _ _ (sym k.if-no-ne-DONE.false ∙ k.before.check_lent-no.ensures)))
     (λ c. search rules)
     (λ c. search rules)
     (λ c.
     let f = c.before.before.before.before in
     let k = f.before.before.before in
     let s = k.before.before.before.before.before.before.before in (
-      sym k.if1.false ∙ k.before.check-lent.ensures,
-      simp (to_z-of_z s.ranges.mvx, to_z-of_z s.ranges.mvy) at f.luma-block-with.ensures,
+      sym k.if-no-ne-DONE.false ∙ k.before.check_lent-no.ensures,
+      simp (to_z-of_z s.ranges.mvx, to_z-of_z s.ranges.mvy) at f.luma_block_with.ensures,
       refl,
       refl,
       refl,

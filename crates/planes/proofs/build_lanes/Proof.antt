@@ -24,12 +24,12 @@ returns c =
     let m = c.before.before.before.before in
     let h = m.before.before.before.before.before in
     let a = h.before.before.before.before.before.before.args in (
-      h.half-row.ensures ∙ put_ext a.h.now a.o a.n _ _ (λ i _. taps a.t.now _ _ (λ k. a.p + (0 + 2) * a.ts + (i + k)) (λ k. omega arith)),
-      m.down-and-centre-row.ensures.0 ∙ put_ext a.v.now a.o a.n _ _ (λ i _. taps a.t.now _ _ (λ k. a.p + (0 + k) * a.ts + (i + 2)) (λ k. omega arith)),
-      m.down-and-centre-row.ensures.1,
+      h.half_row.ensures ∙ put_ext a.h.now a.o a.n _ _ (λ i _. taps a.t.now _ _ (λ k. a.p + (0 + 2) * a.ts + (i + k)) (λ k. omega arith)),
+      m.down_and_centre_row.ensures.0 ∙ put_ext a.v.now a.o a.n _ _ (λ i _. taps a.t.now _ _ (λ k. a.p + (0 + k) * a.ts + (i + 2)) (λ k. omega arith)),
+      m.down_and_centre_row.ensures.1,
     )
 
-centres_require : tie.Need-down-and-centre-row-requires
+centres_require : tie.Need-down_and_centre_row-requires
 centres_require c κs = search rules
 
 pub build_lanes_spec : {M : Type 1} → statement M

@@ -17,28 +17,28 @@ use Rattle.planes.proofs.build_part.Tie as tie
 fits : (c : tie.Start) → let a = c.args in (a.y * a.pw + a.pw ≤ a.pw * a.ph) × ((a.ph - 1) * a.pw + a.pw ≡ a.pw * a.ph)
 fits c = let a = c.args in (omega (arith, mul-le-mul_right a.pw c.requires.6), last_row a.pw a.ph (omega arith))
 
-lies : (c : tie.Then1) → let a = c.before.before.before.before.before.before.args in
-    Lies (length a.f.now) 0 a.pw a.pw a.ph (a.x + 2 ^ 29) (a.y + 2 ^ 29) (2 ^ 29 + 2) (a.n + 5) 6 21 c.before.locate.result.at
-lies c = c.before.locate.ensures c.if1.true
+lies : (c : tie.Then-s) → let a = c.before.before.before.before.before.before.args in
+    Lies (length a.f.now) 0 a.pw a.pw a.ph (a.x + 2 ^ 29) (a.y + 2 ^ 29) (2 ^ 29 + 2) (a.n + 5) 6 21 c.before.locate-s.result.at
+lies c = c.before.locate-s.ensures c.if-s.true
 
-returns : tie.Need-returns
+returns : tie.Need-returns-then-s
 returns c =
     let l = c.before.before.before.before.before.before in
     let k = l.before.before.before.before in
     let a = k.before.before.before.before.before.before.args in
-    part a.f.now a.pw a.ph a.x a.y a.n (λ i. window_at a.f.now k.before.locate.result.at a.pw i 0)
+    part a.f.now a.pw a.ph a.x a.y a.n (λ i. window_at a.f.now k.before.locate-s.result.at a.pw i 0)
     (λ x i j b p q. place_windows a.f.now (lies k) x 0 i j (omega arith) (omega arith))
-    _ _ _ _ l.build-lanes.ensures
+    _ _ _ _ l.build_lanes.ensures
 
-returns-2 : tie.Need-returns-2
+returns-2 : tie.Need-returns
 returns-2 c =
     let l = c.before.before.before.before.before.before in
     let t = l.before.before.before.before.before.before in
     let a = t.before.before.before.before.before.before.before.before.args in
-    part a.f.now a.pw a.ph a.x a.y a.n (λ i. window_at t.luma-tile-into.new.0 0 (a.n + 5) i 0)
+    part a.f.now a.pw a.ph a.x a.y a.n (λ i. window_at t.luma_tile_into.new.t 0 (a.n + 5) i 0)
     (λ x i j b p q.
-    in_tile a.f.now _ 0 a.pw a.pw a.ph (a.x + 2 ^ 29) (a.y + 2 ^ 29) (2 ^ 29 + 2) (a.n + 5) 6 t.luma-tile-into.ensures x 0 i j (omega arith) (omega arith))
-    _ _ _ _ l.build-lanes2.ensures
+    in_tile a.f.now _ 0 a.pw a.pw a.ph (a.x + 2 ^ 29) (a.y + 2 ^ 29) (2 ^ 29 + 2) (a.n + 5) 6 t.luma_tile_into.ensures x 0 i j (omega arith) (omega arith))
+    _ _ _ _ l.build_lanes-2.ensures
 
 pub build_part_spec : {M : Type 1} → statement M
 build_part_spec =

@@ -9,11 +9,11 @@ use Rattle.planes.specs.Planes.{across_at, down_at, centre_at}
 use Rattle.planes.proofs.build_row.Statement.{statement}
 use Rattle.planes.proofs.build_row.Tie as tie
 
-abbrev invariant-loop : tie.invariant-loop
+abbrev invariant-loop : tie.invariant-loop-x
 invariant-loop f pw ph y h₀ v₀ c₀ x₀ h v c x =
     Filled h₀ (y * pw) pw (λ x. across_at f pw ph x y) x h × Filled v₀ (y * pw) pw (λ x. down_at f pw ph x y) x v × Filled c₀ (y * pw) pw (λ x. centre_at f pw ph x y) x c
 
-abbrev decreases-loop : tie.decreases-loop
+abbrev decreases-loop : tie.decreases-loop-x
 decreases-loop f pw ph y h₀ v₀ c₀ x₀ h v c x = pw - x
 
 -- the row ends within the plane
@@ -35,8 +35,8 @@ build_row_spec =
     (λ c. omega arith)
     (λ c.
     let b = c.before.before.before.before.before.before in
-    let i = b.before.before.before.before.before.loop.invariant in
-    let e = b.build-part.ensures in
+    let i = b.before.before.before.before.before.loop-x.invariant in
+    let e = b.build_part.ensures in
     (filled_by i.0 (omega arith) e.0 refl (λ j _. refl), filled_by i.1 (omega arith) e.1 refl (λ j _. refl), filled_by i.2 (omega arith) e.2 refl (λ j _. refl)))
     (λ c. omega arith)
     (λ c κs. omega arith)
@@ -45,8 +45,8 @@ build_row_spec =
     (λ c. omega arith)
     (λ c.
     let b = c.before.before.before.before.before.before in
-    let i = b.before.before.before.before.before.before.loop.invariant in
-    let e = b.build-part2.ensures in (
+    let i = b.before.before.before.before.before.before.loop-x.invariant in
+    let e = b.build_part-then-x-pw.ensures in (
       filled_done (filled_by i.0 (omega arith) e.0 refl (λ j _. refl)) (omega arith),
       filled_done (filled_by i.1 (omega arith) e.1 refl (λ j _. refl)) (omega arith),
       filled_done (filled_by i.2 (omega arith) e.2 refl (λ j _. refl)) (omega arith),
@@ -55,5 +55,5 @@ build_row_spec =
     (λ c. omega arith)
     (λ c. omega arith)
     (λ c.
-    let i = c.before.before.loop.invariant in
+    let i = c.before.before.loop-x.invariant in
     (filled_done i.0 (omega arith), filled_done i.1 (omega arith), filled_done i.2 (omega arith))))

@@ -10,10 +10,10 @@ use Rattle.planes.proofs.check_build.Statement.{statement}
 use Rattle.planes.proofs.check_build.Tie as tie
 
 -- the padded plane was not refused
-zero : (c : tie.Else1) → let a = c.before.before.args in 0 ≡ pad_refusal a.len a.w a.h a.pad a.f
-zero c = sym c.if1.false ∙ c.before.check-pad.ensures
+zero : (c : tie.Else-no-ne-DONE) → let a = c.before.before.args in 0 ≡ pad_refusal a.len a.w a.h a.pad a.f
+zero c = sym c.if-no-ne-DONE.false ∙ c.before.check_pad-no.ensures
 
-ok : (c : tie.Else1) → let a = c.before.before.args in PadOk a.len a.w a.h a.pad a.f
+ok : (c : tie.Else-no-ne-DONE) → let a = c.before.before.args in PadOk a.len a.w a.h a.pad a.f
 ok c = pad_ok _ _ _ _ _ (zero c)
 
 pub check_build_spec : {M : Type 1} → statement M
@@ -21,7 +21,7 @@ check_build_spec =
     tie.close
     (tie.spec
     (λ c κs. search rules)
-    (λ c. build_first _ _ _ _ _ _ _ _ _ c.before.check-pad.ensures c.if1.true)
+    (λ c. build_first _ _ _ _ _ _ _ _ _ c.before.check_pad-no.ensures c.if-no-ne-DONE.true)
     (λ c. omega (arith, ok c))
     (λ c. omega (arith, ok c))
     (λ c. omega (arith, ok c))

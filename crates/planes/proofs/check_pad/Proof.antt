@@ -8,9 +8,9 @@ use Rattle.planes.specs.Planes.{pad_refusal}
 use Rattle.planes.proofs.check_pad.Statement.{statement}
 use Rattle.planes.proofs.check_pad.Tie as tie
 
-sides : (c : tie.Else1) → let a = c.before.before.args in (1 ≤ a.w) × (a.w ≤ 8192) × (1 ≤ a.h) × (a.h ≤ 8192) × (a.w * a.h ≤ 8192 * 8192)
+sides : (c : tie.Else-bad_sides) → let a = c.before.before.args in (1 ≤ a.w) × (a.w ≤ 8192) × (1 ≤ a.h) × (a.h ≤ 8192) × (a.w * a.h ≤ 8192 * 8192)
 sides c =
-    let s = both_inside 1 8192 _ _ (sym c.before.bad-sides.ensures ∙ c.if1.false) in
+    let s = both_inside 1 8192 _ _ (sym c.before.bad_sides.ensures ∙ c.if-bad_sides.false) in
     (s.0, s.1, s.2, s.3, area 8192 _ _ 8192 s.1 s.3)
 
 pub check_pad_spec : {M : Type 1} → statement M

@@ -12,16 +12,16 @@ use Rattle.planes.proofs.pad_plane.Statement.{statement}
 use Rattle.planes.proofs.pad_plane.Tie as tie
 
 -- nothing was refused
-ok : (c : tie.Else1) → let a = c.before.before.before.before.args in PadOk (length a.src.now) a.w a.h a.pad (length a.out.now)
-ok c = pad_ok _ _ _ _ _ (sym c.if1.false ∙ c.before.check-pad.ensures)
+ok : (c : tie.Else-no-ne-DONE) → let a = c.before.before.before.before.args in PadOk (length a.src.now) a.w a.h a.pad (length a.out.now)
+ok c = pad_ok _ _ _ _ _ (sym c.if-no-ne-DONE.false ∙ c.before.check_pad-no.ensures)
 
-returns-2 : tie.Need-returns-2
+returns-2 : tie.Need-returns
 returns-2 c =
     let f = c.before.before in
     let k = f.before.before in
     let a = k.before.before.before.before.args in (
-      sym k.if1.false ∙ k.before.check-pad.ensures,
-      f.clamped-area.ensures
+      sym k.if-no-ne-DONE.false ∙ k.before.check_pad-no.ensures,
+      f.clamped_area.ensures
           ∙ drawn_ext a.out.now (a.w + 2 * a.pad) (a.h + 2 * a.pad) _ _ (λ x y _ _. padded_is a.src.now a.w a.h a.pad x y),
     )
 
@@ -30,7 +30,7 @@ pad_plane_spec =
     tie.close
     (tie.spec
     (λ c κs. search rules)
-    (λ c. (c.before.check-pad.ensures, kept _ _ _ c.if1.true))
+    (λ c. (c.before.check_pad-no.ensures, kept _ _ _ c.if-no-ne-DONE.true))
     (λ c. omega (arith, ok c))
     (λ c. omega (arith, ok c))
     (λ c. omega (arith, ok c))

@@ -17,8 +17,8 @@ returns c =
     let d = c.before.before in
     let t = d.before.before.before.before in
     let a = t.before.before.before.before.args in
-    d.chroma-block.ensures
-    ∙ tiled_chroma a.out.now a.src.now a.p a.stride a.w a.h a.x a.y a.fx a.fy a.bw a.bh _ t.clamped-area.ensures
+    d.chroma_block.ensures
+    ∙ tiled_chroma a.out.now a.src.now a.p a.stride a.w a.h a.x a.y a.fx a.fy a.bw a.bh _ t.clamped_area.ensures
 
 pub chroma_tiled_spec : {M : Type 1} → statement M
 chroma_tiled_spec =

@@ -11,11 +11,11 @@ use Rattle.route.proofs.Inside.{in_place}
 use Rattle.route.proofs.full_from.Statement.{statement}
 use Rattle.route.proofs.full_from.Tie as tie
 
-lies : (c : tie.Then1) → let a = c.before.before.before.args in
+lies : (c : tie.Then-s) → let a = c.before.before.before.args in
     (copied a.bw ≡ true) × Lies (length a.src.now) a.p a.stride a.w a.h a.x a.y a.base a.bw a.bh a.bw a.s.at
-lies c = c.before.before.before.requires.0 c.if1.true
+lies c = c.before.before.before.requires.0 c.if-s.true
 
-returns : tie.Need-returns
+returns : tie.Need-returns-then-s
 returns c =
     let f = c.before.before in
     let k = f.before.before in

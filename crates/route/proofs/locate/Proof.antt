@@ -6,9 +6,9 @@ use Rattle.route.specs.Area.{Lies}
 use Rattle.route.proofs.locate.Statement.{statement}
 use Rattle.route.proofs.locate.Tie as tie
 
-lies : (c : tie.Then1) → let a = c.before.before.args in
-    Lies a.len a.p a.stride a.w a.h a.x a.y a.base a.ew a.eh a.ew c.before.spot_in.result.at
-lies c = c.before.spot_in.ensures c.if1.true
+lies : (c : tie.Then-s) → let a = c.before.before.args in
+    Lies a.len a.p a.stride a.w a.h a.x a.y a.base a.ew a.eh a.ew c.before.spot_in-s.result.at
+lies c = c.before.spot_in-s.ensures c.if-s.true
 
 pub locate_spec : {M : Type 1} → statement M
 locate_spec =

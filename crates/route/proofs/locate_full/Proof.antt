@@ -11,5 +11,5 @@ locate_full_spec =
     (tie.spec
     (λ c κs. search rules)
     (λ c κs. search rules)
-    (λ c e. let k = c.before in (sym k.before.is-copied.ensures ∙ k.if1.true, c.spot_in.ensures e))
+    (λ c e. let k = c.before in (sym k.before.is_copied.ensures ∙ k.if-is_copied.true, c.spot_in.ensures e))
     (λ c e. absurd (false≢true e)))

@@ -17,8 +17,8 @@ returns c =
     let d = c.before.before in
     let t = d.before.before.before.before in
     let a = t.before.before.before.before.args in
-    d.luma-block.ensures
-    ∙ tiled_luma a.out.now a.src.now a.p a.stride a.w a.h a.x a.y a.fx a.fy a.bw a.bh _ t.luma-tile-into.ensures
+    d.luma_block.ensures
+    ∙ tiled_luma a.out.now a.src.now a.p a.stride a.w a.h a.x a.y a.fx a.fy a.bw a.bh _ t.luma_tile_into.ensures
 
 pub luma_tiled_spec : {M : Type 1} → statement M
 luma_tiled_spec =

@@ -9,6 +9,6 @@ predict_chroma_spec =
     tie.close
     (tie.spec
     (λ c κs. search rules)
-    (λ c κs. (c.before.locate-chroma.ensures, omega arith, omega arith, omega arith, omega arith, omega arith, omega arith, omega arith, omega arith, omega arith, omega arith, omega arith))
+    (λ c κs. (c.before.locate_chroma-s.ensures, omega arith, omega arith, omega arith, omega arith, omega arith, omega arith, omega arith, omega arith, omega arith, omega arith, omega arith))
     (λ c. search rules)
-    (λ c. c.before.before.chroma-from.ensures))
+    (λ c. c.before.before.chroma_from.ensures))

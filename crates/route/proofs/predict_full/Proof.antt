@@ -9,6 +9,6 @@ predict_full_spec =
     tie.close
     (tie.spec
     (λ c κs. search rules)
-    (λ c κs. (c.before.locate-full.ensures, omega arith, omega arith, omega arith, omega arith, omega arith, omega arith, omega arith, omega arith, omega arith))
+    (λ c κs. (c.before.locate_full-s.ensures, omega arith, omega arith, omega arith, omega arith, omega arith, omega arith, omega arith, omega arith, omega arith))
     (λ c. search rules)
     (λ c. c.before.before.full_from.ensures))

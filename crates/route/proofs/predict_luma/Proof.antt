@@ -9,16 +9,16 @@ use Rattle.route.proofs.Inside.{room_of, placed_luma}
 use Rattle.route.proofs.predict_luma.Statement.{statement}
 use Rattle.route.proofs.predict_luma.Tie as tie
 
-lies : (c : tie.Then1) → let a = c.before.before.before.before.args in
-    Lies (length a.src.now) a.p a.stride a.w a.h a.x a.y (2 ^ 29 + 2) (a.bw + 5) (a.bh + 5) 21 c.before.locate.result.at
-lies c = c.before.locate.ensures c.if1.true
+lies : (c : tie.Then-s) → let a = c.before.before.before.before.args in
+    Lies (length a.src.now) a.p a.stride a.w a.h a.x a.y (2 ^ 29 + 2) (a.bw + 5) (a.bh + 5) 21 c.before.locate-s.result.at
+lies c = c.before.locate-s.ensures c.if-s.true
 
-returns : tie.Need-returns
+returns : tie.Need-returns-then-s
 returns c =
     let f = c.before.before in
     let k = f.before.before in
     let a = k.before.before.before.before.args in
-    f.luma-block.ensures
+    f.luma_block.ensures
     ∙ placed_luma a.out.now a.src.now a.p a.stride a.w a.h a.x a.y a.fx a.fy a.bw a.bh (lies k)
 
 pub predict_luma_spec : {M : Type 1} → statement M

@@ -8,7 +8,7 @@ use Rattle.route.proofs.spot_in.Statement.{statement}
 use Rattle.route.proofs.spot_in.Tie as tie
 
 -- the window's rows end with the area's
-ends : (c : tie.Else4) → let a = c.before.before.before.before.args in (a.y - a.base) * a.stride + (a.eh - 1) * a.stride ≤ (a.h - 1) * a.stride
+ends : (c : tie.Else-h-y) → let a = c.before.before.before.before.args in (a.y - a.base) * a.stride + (a.eh - 1) * a.stride ≤ (a.h - 1) * a.stride
 ends c = rows_in _ _ _ _ (omega arith) (omega arith)
 
 pub spot_in_spec : {M : Type 1} → statement M

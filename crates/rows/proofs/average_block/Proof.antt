@@ -26,13 +26,13 @@ width n = of (narrow n) refl
 drawn_four : {x : List ℕ} {w h : ℕ} (d : List ℕ) (f : ℕ → ℕ → ℕ) → x ≡ drawn d 4 4 f → w ≡ 4 → h ≡ 4 → x ≡ drawn d w h f
 drawn_four d f p e i = p ∙ ap₂ (λ (w h : ℕ). drawn d w h f) (sym e) (sym i)
 
-four : (c : tie.Then1) → c.before.before.before.before.args.bw ≡ 4
+four : (c : tie.Then-bw-lt8) → c.before.before.before.before.args.bw ≡ 4
 four c = let s = c.before.before.before.before in omega (arith, width s.args.bw s.requires.0)
 
-eight : (c : tie.Then3) → c.before.before.before.before.before.args.bw ≡ 8
+eight : (c : tie.Then-bw-lt16) → c.before.before.before.before.before.args.bw ≡ 8
 eight c = let s = c.before.before.before.before.before in omega (arith, width s.args.bw s.requires.0)
 
-sixteen : (c : tie.Else3) → c.before.before.before.before.before.args.bw ≡ 16
+sixteen : (c : tie.Else-bw-lt16) → c.before.before.before.before.before.args.bw ≡ 16
 sixteen c = let s = c.before.before.before.before.before in omega (arith, width s.args.bw s.requires.0)
 
 pub average_block_spec : {M : Type 1} → statement M
@@ -43,11 +43,11 @@ average_block_spec =
     let k = c.before in
     let s = k.before.before.before.before.before.args in
     let w = four k.before in
-    omega (arith, w, ap (λ (n : ℕ). n * s.bh) w, ap (λ (n : ℕ). (n - 1) * s.ts) k.if2.true))
+    omega (arith, w, ap (λ (n : ℕ). n * s.bh) w, ap (λ (n : ℕ). (n - 1) * s.ts) k.if-bh-eq4.true))
     (λ c. search rules)
     (λ c.
     let k = c.before.before.before.before in
-    drawn_four _ _ c.before.before.average-four.ensures (four k.before) k.if2.true)
+    drawn_four _ _ c.before.before.average_four.ensures (four k.before) k.if-bh-eq4.true)
     (λ c κs.
     let k = c.before in
     let s = k.before.before.before.before.before.args in
@@ -55,7 +55,7 @@ average_block_spec =
     let f = ap (λ (n : ℕ). n * s.bh) w in
     (omega (arith, w), omega (arith, w), refl, omega (arith, f)))
     (λ c. search rules)
-    (λ c. drawn_wide _ _ _ c.before.before.average-narrow.ensures (four c.before.before.before.before.before))
+    (λ c. drawn_wide _ _ _ c.before.before.average_narrow.ensures (four c.before.before.before.before.before))
     (λ c κs.
     let k = c.before in
     let s = k.before.before.before.before.before.args in
@@ -63,11 +63,11 @@ average_block_spec =
     let f = ap (λ (n : ℕ). n * s.bh) w in
     (omega (arith, w), omega (arith, w), refl, omega (arith, f)))
     (λ c. search rules)
-    (λ c. drawn_wide _ _ _ c.before.before.average-narrow2.ensures (eight c.before.before.before.before))
+    (λ c. drawn_wide _ _ _ c.before.before.average_narrow-then-bw-lt16.ensures (eight c.before.before.before.before))
     (λ c κs.
     let k = c.before in
     let s = k.before.before.before.before.before.args in
     let w = sixteen k in
     omega (arith, w, ap (λ (n : ℕ). n * s.bh) w))
     (λ c. search rules)
-    (λ c. drawn_wide _ _ _ c.before.before.average-rows.ensures (sixteen c.before.before.before.before)))
+    (λ c. drawn_wide _ _ _ c.before.before.average_rows.ensures (sixteen c.before.before.before.before)))

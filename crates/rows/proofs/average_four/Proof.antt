@@ -32,10 +32,10 @@ returns c =
     let b = s.b.now in
     let ts = s.ts in
     let d = s.dst.now in
-    let r₁ = next a b ts d 0 (rows_none _ _ _ _ (omega arith)) c₀.average-narrow-row.ensures (omega arith) refl (omega arith) in
-    let r₂ = next a b ts d 1 r₁ c₁.average-narrow-row2.ensures (omega arith) refl (omega arith) in
-    let r₃ = next a b ts d 2 r₂ c₂.average-narrow-row3.ensures (omega arith) refl (omega arith) in
-    rows_done (next a b ts d 3 r₃ c₃.average-narrow-row4.ensures (omega arith) refl (omega arith)) (omega arith)
+    let r₁ = next a b ts d 0 (rows_none _ _ _ _ (omega arith)) c₀.average_narrow_row.ensures (omega arith) refl (omega arith) in
+    let r₂ = next a b ts d 1 r₁ c₁.average_narrow_row-2.ensures (omega arith) refl (omega arith) in
+    let r₃ = next a b ts d 2 r₂ c₂.average_narrow_row-3.ensures (omega arith) refl (omega arith) in
+    rows_done (next a b ts d 3 r₃ c₃.average_narrow_row-4.ensures (omega arith) refl (omega arith)) (omega arith)
 
 pub average_four_spec : {M : Type 1} → statement M
 average_four_spec =

@@ -9,10 +9,10 @@ use Rattle.samples.proofs.Rows.{row_in}
 use Rattle.rows.proofs.average_narrow.Statement.{statement}
 use Rattle.rows.proofs.average_narrow.Tie as tie
 
-abbrev invariant-loop : tie.invariant-loop
+abbrev invariant-loop : tie.invariant-loop-r
 invariant-loop a b ts bw bh dst₀ r₀ dst r = Rows dst₀ bw bh (λ x y. mean (get_or a (y * ts + x) 0) (get_or b (y * ts + x) 0)) r dst
 
-abbrev decreases-loop : tie.decreases-loop
+abbrev decreases-loop : tie.decreases-loop-r
 decreases-loop a b ts bw bh dst₀ r₀ dst r = bh - r
 
 pub average_narrow_spec : {M : Type 1} → statement M
@@ -22,14 +22,14 @@ average_narrow_spec =
     invariant-loop
     decreases-loop
     (λ c. rows_none _ _ _ _ (omega arith))
-    (λ c. omega (arith, row_in c.before.before.before.before.before.args.ts c.before.loop.invariant c.loop-test.true))
-    (λ c. omega (arith, row_in 0 c.before.before.loop.invariant c.before.loop-test.true))
+    (λ c. omega (arith, row_in c.before.before.before.before.before.args.ts c.before.loop-r.invariant c.loop-r-test.true))
+    (λ c. omega (arith, row_in 0 c.before.before.loop-r.invariant c.before.loop-r-test.true))
     (λ c κs.
     let s = c.before.before.before.before.before.before in
-    let i = row_in s.args.ts c.before.before.loop.invariant c.before.loop-test.true in
+    let i = row_in s.args.ts c.before.before.loop-r.invariant c.before.loop-r-test.true in
     (s.requires.2, omega (arith, i), omega (arith, i), omega (arith, i)))
     (λ c. omega arith)
     (λ c. omega arith)
-    (λ c. rows_more c.before.before.before.before.before.loop.invariant (omega arith) c.before.before.average-narrow-row.ensures (λ x h. refl))
+    (λ c. rows_more c.before.before.before.before.before.loop-r.invariant (omega arith) c.before.before.average_narrow_row.ensures (λ x h. refl))
     (λ c. omega arith)
-    (λ c. rows_done c.before.loop.invariant (omega arith)))
+    (λ c. rows_done c.before.loop-r.invariant (omega arith)))

@@ -30,16 +30,16 @@ average_narrow_row_spec =
     (λ c κs. search rules)
     (λ c.
     let x = c.before.before.before in
-    long _ _ _ x.load-narrow.ensures x.before.before.before.before.before.requires.0 refl)
+    long _ _ _ x.load_narrow.ensures x.before.before.before.before.before.requires.0 refl)
     (λ c.
     let y = c.before.before in
-    long _ _ _ y.load-narrow2.ensures y.before.before.before.before.before.before.before.requires.0 refl)
+    long _ _ _ y.load_narrow-2.ensures y.before.before.before.before.before.before.before.requires.0 refl)
     (λ c. search rules)
     (λ c κs.
     let y = c.before.before.before in
     let x = y.before.before in
     let h = x.before.before.before.before.before.requires.0 in
-    omega (arith, long _ _ _ x.load-narrow.ensures h refl, long _ _ _ y.load-narrow2.ensures h refl))
+    omega (arith, long _ _ _ x.load_narrow.ensures h refl, long _ _ _ y.load_narrow-2.ensures h refl))
     (λ c κs. search rules)
     (λ c. search rules)
     (λ c.
@@ -47,5 +47,5 @@ average_narrow_row_spec =
     let y = m.before.before.before.before in
     let x = y.before.before in
     let s = x.before.before.before.before.before in
-    stored _ _ _ _ c.before.before.store-narrow.ensures m.mean-lanes.ensures (omega (arith, narrow_small s.args.n s.requires.0))
-    ∙ put_ext _ _ _ _ _ (λ i h. ap₂ mean (lane _ _ _ x.load-narrow.ensures i h) (lane _ _ _ y.load-narrow2.ensures i h))))
+    stored _ _ _ _ c.before.before.store_narrow.ensures m.mean_lanes.ensures (omega (arith, narrow_small s.args.n s.requires.0))
+    ∙ put_ext _ _ _ _ _ (λ i h. ap₂ mean (lane _ _ _ x.load_narrow.ensures i h) (lane _ _ _ y.load_narrow-2.ensures i h))))

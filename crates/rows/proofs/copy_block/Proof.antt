@@ -12,7 +12,7 @@ copy_block_spec =
     (λ c κs.
     let k = c.before.before in
     let s = k.before.before.before.requires in
-    (sym k.is-copied.ensures ∙ c.before.if1.true, s.0, s.3))
+    (sym k.is_copied.ensures ∙ c.before.if-is_copied.true, s.0, s.3))
     (λ c. search rules)
     (λ c. search rules)
     (λ c κs. search rules)

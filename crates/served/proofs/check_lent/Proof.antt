@@ -5,8 +5,8 @@ use Rattle.served.specs.Served.{lent_tests}
 use Rattle.served.proofs.check_lent.Statement.{statement}
 use Rattle.served.proofs.check_lent.Tie as tie
 
-sides : (c : tie.Else1) → let a = c.before.before.args in (1 ≤ a.w) × (a.w ≤ 8192) × (1 ≤ a.ht) × (a.ht ≤ 8192)
-sides c = both_inside 1 8192 _ _ (sym c.before.bad-sides.ensures ∙ c.if1.false)
+sides : (c : tie.Else-bad_sides) → let a = c.before.before.args in (1 ≤ a.w) × (a.w ≤ 8192) × (1 ≤ a.ht) × (a.ht ≤ 8192)
+sides c = both_inside 1 8192 _ _ (sym c.before.bad_sides.ensures ∙ c.if-bad_sides.false)
 
 pub check_lent_spec : {M : Type 1} → statement M
 unfolding lent_tests

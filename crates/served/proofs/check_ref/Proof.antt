@@ -8,8 +8,8 @@ use Rattle.served.proofs.check_ref.Statement.{statement}
 use Rattle.served.proofs.check_ref.Tie as tie
 
 -- what is lent was not refused
-lent : (c : tie.Else1) → let a = c.before.before.args in 0 ≡ lowest (lent_tests a.f a.h a.v a.c a.w a.ht a.pad a.x0 a.y0 a.bw a.bh)
-lent c = sym c.if1.false ∙ c.before.check-lent.ensures
+lent : (c : tie.Else-lent-ne-DONE) → let a = c.before.before.args in 0 ≡ lowest (lent_tests a.f a.h a.v a.c a.w a.ht a.pad a.x0 a.y0 a.bw a.bh)
+lent c = sym c.if-lent-ne-DONE.false ∙ c.before.check_lent-lent.ensures
 
 pub check_ref_spec : {M : Type 1} → statement M
 unfolding ref_refusal
@@ -17,7 +17,7 @@ check_ref_spec =
     tie.close
     (tie.spec
     (λ c κs. search rules)
-    (λ c. first _ _ _ c.before.check-lent.ensures c.if1.true)
+    (λ c. first _ _ _ c.before.check_lent-lent.ensures c.if-lent-ne-DONE.true)
     (λ c κs. search rules)
     (λ c κs. search rules)
     (λ c κs. search rules)
@@ -26,5 +26,5 @@ check_ref_spec =
     let f = c.before.before in
     let k = f.before.before in
     let s = k.before.before in
-    lent_then _ _ _ _ _ _ _ _ _ _ _ _ _ (lent k) (same_test _ _ _ _ _ _ (simp (to_z-of_z s.ranges.mvx, to_z-of_z s.ranges.mvy) at c.check-place.ensures)
-    (c.before.at-quarter.ensures ∙ ap₂ at_quarter (simp (to_z-of_z s.ranges.mvx) at f.before.luma-phase.ensures.0) (simp (to_z-of_z s.ranges.mvy) at f.luma-phase2.ensures.0)))))
+    lent_then _ _ _ _ _ _ _ _ _ _ _ _ _ (lent k) (same_test _ _ _ _ _ _ (simp (to_z-of_z s.ranges.mvx, to_z-of_z s.ranges.mvy) at c.check_place.ensures)
+    (c.before.at_quarter-unserved.ensures ∙ ap₂ at_quarter (simp (to_z-of_z s.ranges.mvx) at f.before.luma_phase.ensures.0) (simp (to_z-of_z s.ranges.mvy) at f.luma_phase-2.ensures.0)))))

@@ -1,5 +1,5 @@
 -- `vectors::bad_reference` meets its contract. Assumes nothing.
-use Rattle.std.proofs.Common.{to_z-of_z, rules}
+use Rattle.std.proofs.Common.{to_z-of_z}
 use Rattle.vectors.specs.Predict.{bad_reference}
 use Rattle.vectors.proofs.bad_reference.Statement.{statement}
 use Rattle.vectors.proofs.bad_reference.Tie as tie

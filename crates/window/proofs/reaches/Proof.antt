@@ -6,4 +6,4 @@ use Rattle.window.proofs.reaches.Statement.{statement}
 use Rattle.window.proofs.reaches.Tie as tie
 
 pub reaches_spec : {M : Type 1} → statement M
-reaches_spec = tie.close (tie.spec (λ c κs. search rules) (λ c κs. search rules) (λ c. ap₂ ◌&&◌ c.before.in_reach.ensures c.in-reach2.ensures))
+reaches_spec = tie.close (tie.spec (λ c κs. search rules) (λ c κs. search rules) (λ c. ap₂ ◌&&◌ c.before.in_reach-across.ensures c.in_reach-down.ensures))

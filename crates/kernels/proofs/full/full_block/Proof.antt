@@ -13,22 +13,22 @@ use Rattle.kernels.proofs.full.full_block.Tie as tie
 two : (n : ℕ) → copied n ≡ true → (n ≡ 16 → ⊥) → (n ≡ 8 → ⊥) → (n ≡ 4 → ⊥) → n ≡ 2
 two n e p q r = eqb-true n 2 (simp (ne_eqb n 16 p, ne_eqb n 8 q, ne_eqb n 4 r) at e)
 
-last : (c : tie.Else3) → c.before.before.before.before.before.args.bw ≡ 2
-last c = two _ c.before.before.before.before.before.requires.0 c.before.before.if1.false c.before.if2.false c.if3.false
+last : (c : tie.Else-bw-eq4) → c.before.before.before.before.before.args.bw ≡ 2
+last c = two _ c.before.before.before.before.before.requires.0 c.before.before.if-bw-eq16.false c.before.if-bw-eq8.false c.if-bw-eq4.false
 
 pub full_block_spec : {M : Type 1} → statement M
 full_block_spec =
     tie.close
     (tie.spec
-    (λ c κs. omega (arith, ap (λ (w : ℕ). w * c.before.before.before.before.args.bh) c.before.if1.true))
+    (λ c κs. omega (arith, ap (λ (w : ℕ). w * c.before.before.before.before.args.bh) c.before.if-bw-eq16.true))
     (λ c. search rules)
-    (λ c. drawn_wide _ _ _ c.before.before.full-rows.ensures c.before.before.before.before.if1.true)
-    (λ c κs. omega (arith, ap (λ (w : ℕ). w * c.before.before.before.before.before.args.bh) c.before.if2.true))
+    (λ c. drawn_wide _ _ _ c.before.before.full_rows.ensures c.before.before.before.before.if-bw-eq16.true)
+    (λ c κs. omega (arith, ap (λ (w : ℕ). w * c.before.before.before.before.before.args.bh) c.before.if-bw-eq8.true))
     (λ c. search rules)
-    (λ c. drawn_wide _ _ _ c.before.before.full-rows2.ensures c.before.before.before.before.if2.true)
-    (λ c κs. omega (arith, ap (λ (w : ℕ). w * c.before.before.before.before.before.before.args.bh) c.before.if3.true))
+    (λ c. drawn_wide _ _ _ c.before.before.full_rows-then-bw-eq8.ensures c.before.before.before.before.if-bw-eq8.true)
+    (λ c κs. omega (arith, ap (λ (w : ℕ). w * c.before.before.before.before.before.before.args.bh) c.before.if-bw-eq4.true))
     (λ c. search rules)
-    (λ c. drawn_wide _ _ _ c.before.before.full-rows3.ensures c.before.before.before.before.if3.true)
+    (λ c. drawn_wide _ _ _ c.before.before.full_rows-then-bw-eq4.ensures c.before.before.before.before.if-bw-eq4.true)
     (λ c κs. omega (arith, last c.before, ap (λ (w : ℕ). w * c.before.before.before.before.before.before.args.bh) (last c.before)))
     (λ c. search rules)
-    (λ c. drawn_wide _ _ _ c.before.before.full-rows4.ensures (last c.before.before.before.before)))
+    (λ c. drawn_wide _ _ _ c.before.before.full_rows-2.ensures (last c.before.before.before.before)))

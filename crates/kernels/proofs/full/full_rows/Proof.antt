@@ -12,20 +12,20 @@ use Rattle.samples.proofs.Rows.{row_in}
 use Rattle.kernels.proofs.full.full_rows.Statement.{statement}
 use Rattle.kernels.proofs.full.full_rows.Tie as tie
 
-abbrev invariant-loop : tie.invariant-loop
+abbrev invariant-loop : tie.invariant-loop-r
 invariant-loop t p ts bw bh dst₀ r₀ dst r = Rows dst₀ bw bh (λ c r. get_or t (p + r * ts + c) 0) r dst
 
-abbrev decreases-loop : tie.decreases-loop
+abbrev decreases-loop : tie.decreases-loop-r
 decreases-loop t p ts bw bh dst₀ r₀ dst r = bh - r
 
 -- two rows are there, and have room
-two : (c : tie.In-loop invariant-loop decreases-loop) → let a = c.before.before.before.before.args in let l = c.before.loop in
+two : (c : tie.In-loop-r invariant-loop decreases-loop) → let a = c.before.before.before.before.args in let l = c.before.loop-r in
     (l.r * a.ts + (2 - 1) * a.ts ≤ (a.bh - 1) * a.ts) × (l.r * a.bw + 2 * a.bw ≤ length l.dst)
-two c = group_in 2 _ c.before.loop.invariant c.loop-test.true (omega arith)
+two c = group_in 2 _ c.before.loop-r.invariant c.loop-r-test.true (omega arith)
 
-one : (c : tie.Then1 invariant-loop decreases-loop) → let a = c.before.before.before.before.before.args in let l = c.before.before.loop in
+one : (c : tie.Then-r-bh invariant-loop decreases-loop) → let a = c.before.before.before.before.before.args in let l = c.before.before.loop-r in
     (l.r * a.ts ≤ (a.bh - 1) * a.ts) × (l.r * a.ts + a.ts ≤ a.bh * a.ts) × (l.r * a.bw + a.bw ≤ length l.dst)
-one c = row_in _ c.before.before.loop.invariant c.if1.true
+one c = row_in _ c.before.before.loop-r.invariant c.if-r-bh.true
 
 -- a turn
 next : {d e l : List ℕ} {w h r : ℕ} (d₀ t : List ℕ) (p ts : ℕ) → Rows d₀ w h (λ c r. get_or t (p + r * ts + c) 0) r d → r + 2 ≤ h
@@ -44,7 +44,7 @@ full_rows_spec =
     invariant-loop
     decreases-loop
     (λ c. rows_none _ _ _ _ (omega arith))
-    (λ c. let s = c.before.before.before in omega (arith, mul-le-mul_right s.args.bh s.requires.1, s.well-formed.1.1.1.1.1))
+    (λ c. let s = c.before.before.before in omega (arith, mul-le-mul_right s.args.bh s.requires.1, s.well_formed.1.1.1.1.1))
     (λ c. omega (arith, two c))
     (λ c. omega (arith, two c))
     (λ c. omega (arith, two c.before))
@@ -60,12 +60,12 @@ full_rows_spec =
     (λ c.
     let f = c.before.before.before.before.before.before in
     let a = f.before.before.before.before.before.before.args in
-    next _ a.t.now a.p a.ts f.before.before.before.loop.invariant (omega arith) f.full-row.ensures c.before.before.full-row2.ensures)
+    next _ a.t.now a.p a.ts f.before.before.before.loop-r.invariant (omega arith) f.full_row.ensures c.before.before.full_row-in-loop-r.ensures)
     (λ c. omega (arith, one c))
     (λ c. omega (arith, one c))
     (λ c. omega (arith, one c.before))
     (λ c κs. omega (arith, one c.before))
     (λ c. omega arith)
-    (λ c. rows_done (rows_more c.before.before.before.before.before.before.loop.invariant (omega arith) c.before.before.full-row3.ensures (λ x h. refl)) (omega arith))
+    (λ c. rows_done (rows_more c.before.before.before.before.before.before.loop-r.invariant (omega arith) c.before.before.full_row-then-r-bh.ensures (λ x h. refl)) (omega arith))
     (λ c. omega arith)
-    (λ c. rows_done c.before.before.loop.invariant (omega arith)))
+    (λ c. rows_done c.before.before.loop-r.invariant (omega arith)))

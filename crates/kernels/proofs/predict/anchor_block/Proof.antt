@@ -8,21 +8,21 @@ use Rattle.kernels.proofs.Phases.{half_at, half_in}
 use Rattle.kernels.proofs.predict.anchor_block.Statement.{statement}
 use Rattle.kernels.proofs.predict.anchor_block.Tie as tie
 
-returns : tie.Need-returns
+returns : tie.Need-returns-then-k-eq-CENTRE
 returns c =
     let f = c.before.before in
     let k = f.before.before in
     let a = k.before.before.before.before.args in
-    f.luma-centre.ensures
+    f.luma_centre.ensures
     ∙ drawn_ext a.dst.now a.bw a.bh _ _ (λ x r _ _. sym (at_centre 255 _ a.k (λ e. absurd (omega arith)) (λ e. absurd (omega arith)) (λ e. absurd (omega arith))))
 
-returns-2 : tie.Need-returns-2
+returns-2 : tie.Need-returns
 returns-2 c =
     let f = c.before.before in
     let h = f.before.before in
     let a = h.before.before.before.before.before.args in
-    f.half-block.ensures
-    ∙ drawn_ext a.dst.now a.bw a.bh _ _ (λ x r _ _. half_at a.k a.p a.ts _ _ h.taps-of.ensures (omega arith) (omega arith) a.t.now x r)
+    f.half_block.ensures
+    ∙ drawn_ext a.dst.now a.bw a.bh _ _ (λ x r _ _. half_at a.k a.p a.ts _ _ h.taps_of-h.ensures (omega arith) (omega arith) a.t.now x r)
 
 pub anchor_block_spec : {M : Type 1} → statement M
 anchor_block_spec =
@@ -35,6 +35,6 @@ anchor_block_spec =
     (λ c κs.
     let h = c.before in
     let a = h.before.before.before.before.before.args in
-    omega (arith, half_in a.k a.p a.ts _ _ h.taps-of.ensures (omega arith) (omega arith) a.bh (omega arith) (omega arith) (omega arith)))
+    omega (arith, half_in a.k a.p a.ts _ _ h.taps_of-h.ensures (omega arith) (omega arith) a.bh (omega arith) (omega arith) (omega arith)))
     (λ c. search rules)
     returns-2)

@@ -10,15 +10,15 @@ use Rattle.kernels.proofs.predict.luma_between.Statement.{statement}
 use Rattle.kernels.proofs.predict.luma_between.Tie as tie
 
 -- the local block has room
-room : (c : tie.After-lanes-of) → let a = c.before.before.before.args in let k = c.lanes-of.result in (k * a.bh ≤ 256) × ((a.bh - 1) * k + 16 ≤ 256)
+room : (c : tie.After-lanes_of-k) → let a = c.before.before.before.args in let k = c.lanes_of-k.result in (k * a.bh ≤ 256) × ((a.bh - 1) * k + 16 ≤ 256)
 room c = local_fits _ _ (omega arith) (omega arith) (omega arith)
 
 returns : tie.Need-returns
 returns c =
     let f = c.before.before in
     let g = f.before.before.before.before in
-    f.mixed-anchor.ensures
-    ∙ drawn_ext _ _ _ _ _ (λ x r i j. ap₂ mean (local_at _ _ _ _ g.anchor-block.ensures x r (omega arith) j) refl)
+    f.mixed_anchor.ensures
+    ∙ drawn_ext _ _ _ _ _ (λ x r i j. ap₂ mean (local_at _ _ _ _ g.anchor_block.ensures x r (omega arith) j) refl)
 
 pub luma_between_spec : {M : Type 1} → statement M
 luma_between_spec =

@@ -13,8 +13,8 @@ returns c =
     let f = c.before.before in
     let h = f.before.before in
     let a = h.before.before.before.before.args in
-    f.mixed-block.ensures
-    ∙ drawn_ext a.dst.now a.bw a.bh _ _ (λ x r _ _. ap (mean _) (half_at a.k a.p a.ts _ _ h.taps-of.ensures (omega arith) (omega arith) a.t.now x r))
+    f.mixed_block.ensures
+    ∙ drawn_ext a.dst.now a.bw a.bh _ _ (λ x r _ _. ap (mean _) (half_at a.k a.p a.ts _ _ h.taps_of-h.ensures (omega arith) (omega arith) a.t.now x r))
 
 pub mixed_anchor_spec : {M : Type 1} → statement M
 mixed_anchor_spec =
@@ -24,6 +24,6 @@ mixed_anchor_spec =
     (λ c κs.
     let h = c.before in
     let a = h.before.before.before.before.args in
-    omega (arith, half_in a.k a.p a.ts _ _ h.taps-of.ensures (omega arith) (omega arith) a.bh (omega arith) (omega arith) (omega arith)))
+    omega (arith, half_in a.k a.p a.ts _ _ h.taps_of-h.ensures (omega arith) (omega arith) a.bh (omega arith) (omega arith) (omega arith)))
     (λ c. search rules)
     returns)

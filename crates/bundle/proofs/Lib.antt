@@ -1,3 +1,0 @@
--- The bundle and its parts, and the walk of the functions that hand them on.
-pub mod Parts
-pub mod Walk
