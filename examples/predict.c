@@ -1,6 +1,6 @@
 /*
  * Predicts one block from a small picture, then lends a picture that is too short.
- * Build: rt staticlib inter && cc -std=c99 -Iinclude examples/predict.c target/staticlib/libinter.a
+ * Build: tools/archive && cc -std=c99 -Iinclude examples/predict.c target/staticlib/libinter.a
  */
 #include <stdio.h>
 

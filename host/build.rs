@@ -1,6 +1,6 @@
 //! Makes the proved archive where it is missing or out of date, and links a copy of it.
 
-use std::io::{ErrorKind, Write};
+use std::io::Write;
 use std::path::{Path, PathBuf};
 use std::process::Command;
 use std::time::{Instant, SystemTime};
@@ -10,7 +10,7 @@ fn main() {
     let host =
         PathBuf::from(env::var("CARGO_MANIFEST_DIR").expect("cargo sets CARGO_MANIFEST_DIR"));
     let root = host.parent().expect("host/ stands in the repository");
-    let sources = [root.join("crates"), root.join("crates.txt")];
+    let sources = sources(root);
     println!("cargo::rerun-if-changed=build.rs");
     for path in &sources {
         println!("cargo::rerun-if-changed={}", path.display());
@@ -22,7 +22,7 @@ fn main() {
         make(root);
     }
 
-    // A copy, because `rt ci` removes target/ and cargo would not notice.
+    // A copy, because cargo would not notice if target/ were removed.
     let out = PathBuf::from(env::var("OUT_DIR").expect("cargo sets OUT_DIR"));
     fs::copy(&archive, out.join("libinter.a"))
         .unwrap_or_else(|error| panic!("{} is not to be read: {error}", archive.display()));
@@ -30,11 +30,19 @@ fn main() {
     println!("cargo::rustc-link-lib=static=inter");
 }
 
-/// The latest change of the file, or of any file under the folder but the must-fail edits.
+/// What the archive is made from: the crates' texts and proofs, but neither their must-fail edits
+/// nor what `rt` keeps in out/.
+fn sources(root: &Path) -> Vec<PathBuf> {
+    let crates = fs::read_dir(root.join("crates")).expect("crates/ is read");
+    let parts = crates
+        .flatten()
+        .flat_map(|entry| ["src", "specs", "proofs"].map(|part| entry.path().join(part)));
+    let parts = parts.filter(|part| part.is_dir());
+    [root.join("crates.txt"), root.join("tools/archive")].into_iter().chain(parts).collect()
+}
+
+/// The latest change of the file, or of any file under the folder.
 fn newest(path: &Path) -> Option<SystemTime> {
-    if path.ends_with("must-fail") {
-        return None;
-    }
     let meta = fs::metadata(path).ok()?;
     if !meta.is_dir() {
         return meta.modified().ok();
@@ -50,27 +58,23 @@ fn tell(text: &str) {
     }
 }
 
-/// Proves the Rattle crate `inter` and writes its archive.
+/// Proves the exports, the Rattle crate `inter_c`, and makes their archive.
 fn make(root: &Path) {
-    tell("Proving the library and making its archive (`rt staticlib inter`): about six minutes from nothing, less after a change.");
+    tell("Proving the library and making its archive (`tools/archive`): some minutes from nothing, less after a change.");
     let begun = Instant::now();
-    let run = match Command::new("rt").args(["staticlib", "inter"]).current_dir(root).output() {
+    let run = match Command::new(root.join("tools/archive")).output() {
         Ok(run) => run,
-        Err(error) if error.kind() == ErrorKind::NotFound => panic!(
-            "the Rattle kit's command `rt` was not found on PATH; \
-             it makes the archive that this crate links"
-        ),
-        Err(error) => panic!("`rt staticlib inter` did not start: {error}"),
+        Err(error) => panic!("`tools/archive` did not start: {error}"),
     };
     assert!(
         run.status.success(),
-        "`rt staticlib inter` ended with {}:\n{}{}",
+        "`tools/archive` ended with {}:\n{}{}",
         run.status,
         String::from_utf8_lossy(&run.stdout),
         String::from_utf8_lossy(&run.stderr)
     );
     println!(
-        "cargo::warning=the archive was proved and made anew by `rt staticlib inter`, in {} s",
+        "cargo::warning=the archive was proved and made anew by `tools/archive`, in {} s",
         begun.elapsed().as_secs()
     );
 }

@@ -1,4 +1,4 @@
-//! H.264 inter prediction: safe calls over the exports of the proved Rattle crate `inter`.
+//! H.264 inter prediction: safe calls over the exports of the proved Rattle crate `inter_c`.
 //!
 //! The calls carry the names and the parameters of rusty_h264's inter.rs. Each one checks its
 //! own arguments: what it cannot serve it answers with a [`Refusal`], and then nothing that it

@@ -261,7 +261,9 @@ fn of_rattle(exports: &str) -> Boundary {
         add_records(&mut records, &tokens(&rattle(&folder.path())));
     }
     let mut boundary = Boundary::new();
-    for mut reader in Reader::each_after(&tokens(exports), "#[no_mangle] pub extern \"C\" fn") {
+    for mut reader in
+        Reader::each_after(&tokens(exports), "#[unsafe(no_mangle)] pub extern \"C\" fn")
+    {
         reader.function(&mut boundary);
     }
     // What a call carries, and what lies inside of that.
@@ -285,7 +287,7 @@ fn rattle(folder: &Path) -> String {
 }
 
 fn exports() -> String {
-    rattle(&Path::new(CRATES).join("inter"))
+    rattle(&Path::new(CRATES).join("inter_c"))
 }
 
 /// What the three do not say alike, with what each says.
@@ -349,7 +351,7 @@ fn every_slip_is_noticed() {
     noticed(rattle, "-> HpelPair", "-> HpelAt");
     noticed(header, "int32_t inter_median3(int32_t a, int32_t b, int32_t c);", "");
     noticed(ffi, "pub safe fn inter_inter_partitions(mode: u8) -> Partitions;", "");
-    noticed(rattle, "#[no_mangle]\n", "");
+    noticed(rattle, "#[unsafe(no_mangle)]\n", "");
 }
 
 #[test]

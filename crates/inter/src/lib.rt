@@ -1,4 +1,4 @@
-// The C interface: numbers, records and byte slices, one thin call over the library's each.
+// The calls as C has them: numbers, records and byte slices, one thin call over the library's each. The crate inter_c exports them under the same names.
 #![tactic(auto)]
 
 ghost use Rattle.std.specs.Prelude.{◌≡◌, length, min};
@@ -26,8 +26,7 @@ use lent::McScratch;
 use margins::Geometry;
 use vectors::{MvAnswer, MvNeighbor, Partitions};
 
-#[unsafe(no_mangle)]
-pub extern "C" fn inter_mc_luma(
+pub fn inter_mc_luma(
     reference: &[u8],
     cw: usize,
     ch: usize,
@@ -45,8 +44,7 @@ pub extern "C" fn inter_mc_luma(
     luma::mc_luma(reference, cw, ch, x0, y0, bw, bh, mvx, mvy, out)
 }
 
-#[unsafe(no_mangle)]
-pub extern "C" fn inter_mc_chroma(
+pub fn inter_mc_chroma(
     reference: &[u8],
     cw: usize,
     ch: usize,
@@ -64,14 +62,7 @@ pub extern "C" fn inter_mc_chroma(
     chroma::mc_chroma(reference, cw, ch, x0, y0, bw, bh, mvx, mvy, out)
 }
 
-#[unsafe(no_mangle)]
-pub extern "C" fn inter_expand_plane(
-    buf: &mut [u8],
-    stride: usize,
-    pad: usize,
-    pw: usize,
-    ph: usize,
-) -> u32
+pub fn inter_expand_plane(buf: &mut [u8], stride: usize, pad: usize, pw: usize, ph: usize) -> u32
     ensures { (result ≡ padded_refusal (length buf.old) pw ph pad stride)
         × (buf.new ≡ after result buf.old (expanded buf.old stride pad pw ph)) }
 {
@@ -84,8 +75,7 @@ pub extern "C" fn inter_expand_plane(
     margins::expand_plane(buf, g)
 }
 
-#[unsafe(no_mangle)]
-pub extern "C" fn inter_mc_luma_padded(
+pub fn inter_mc_luma_padded(
     padded: &[u8],
     stride: usize,
     pad: usize,
@@ -111,8 +101,7 @@ pub extern "C" fn inter_mc_luma_padded(
     padded::mc_luma_padded(padded, g, x0, y0, bw, bh, mvx, mvy, out)
 }
 
-#[unsafe(no_mangle)]
-pub extern "C" fn inter_mc_luma_padded_pre(
+pub fn inter_mc_luma_padded_pre(
     scr: &mut McScratch,
     padded: &[u8],
     stride: usize,
@@ -148,8 +137,7 @@ pub extern "C" fn inter_mc_luma_padded_pre(
     )
 }
 
-#[unsafe(no_mangle)]
-pub extern "C" fn inter_mc_chroma_padded(
+pub fn inter_mc_chroma_padded(
     padded: &[u8],
     stride: usize,
     pad: usize,
@@ -175,8 +163,7 @@ pub extern "C" fn inter_mc_chroma_padded(
     padded::mc_chroma_padded(padded, g, x0, y0, bw, bh, mvx, mvy, out)
 }
 
-#[unsafe(no_mangle)]
-pub extern "C" fn inter_mc_chroma_padded_pair(
+pub fn inter_mc_chroma_padded_pair(
     pu: &[u8],
     pv: &[u8],
     stride: usize,
@@ -205,16 +192,14 @@ pub extern "C" fn inter_mc_chroma_padded_pair(
     padded::mc_chroma_padded_pair(pu, pv, g, x0, y0, bw, bh, mvx, mvy, outu, outv)
 }
 
-#[unsafe(no_mangle)]
-pub extern "C" fn inter_pad_plane(src: &[u8], w: usize, h: usize, pad: usize, out: &mut [u8]) -> u32
+pub fn inter_pad_plane(src: &[u8], w: usize, h: usize, pad: usize, out: &mut [u8]) -> u32
     ensures { (result ≡ pad_refusal (length src.now) w h pad (length out.old))
         × (out.new ≡ after result out.old (drawn out.old (wide w pad) (wide h pad) (padded_at src.now w h pad))) }
 {
     planes::pad_plane(src, w, h, pad, out)
 }
 
-#[unsafe(no_mangle)]
-pub extern "C" fn inter_build_hpel_planes(
+pub fn inter_build_hpel_planes(
     reference: &[u8],
     cw: usize,
     ch: usize,
@@ -233,8 +218,7 @@ pub extern "C" fn inter_build_hpel_planes(
     planes::build_hpel_planes(reference, cw, ch, pad, f, h, v, c)
 }
 
-#[unsafe(no_mangle)]
-pub extern "C" fn inter_hpel_ref<'a>(
+pub fn inter_hpel_ref<'a>(
     f: &'a [u8],
     h: &'a [u8],
     v: &'a [u8],
@@ -254,8 +238,7 @@ pub extern "C" fn inter_hpel_ref<'a>(
     hpel::hpel_ref_at(f, h, v, c, cw, ch, pad, x0, y0, bw, bh, mvx, mvy)
 }
 
-#[unsafe(no_mangle)]
-pub extern "C" fn inter_hpel_qpel_refs<'a>(
+pub fn inter_hpel_qpel_refs<'a>(
     f: &'a [u8],
     h: &'a [u8],
     v: &'a [u8],
@@ -275,8 +258,7 @@ pub extern "C" fn inter_hpel_qpel_refs<'a>(
     hpel::hpel_qpel_refs_at(f, h, v, c, cw, ch, pad, x0, y0, bw, bh, mvx, mvy)
 }
 
-#[unsafe(no_mangle)]
-pub extern "C" fn inter_hpel_block<'a>(
+pub fn inter_hpel_block<'a>(
     f: &'a [u8],
     h: &'a [u8],
     v: &'a [u8],
@@ -298,16 +280,14 @@ pub extern "C" fn inter_hpel_block<'a>(
     hpel::hpel_block(f, h, v, c, cw, ch, pad, x0, y0, bw, bh, mvx, mvy, out)
 }
 
-#[unsafe(no_mangle)]
-pub extern "C" fn inter_avg_row_into(a: &[u8], b: &[u8], w: usize, out: &mut [u8]) -> u32
+pub fn inter_avg_row_into(a: &[u8], b: &[u8], w: usize, out: &mut [u8]) -> u32
     ensures { (result ≡ row_refusal (length a.now) (length b.now) w (length out.old))
         × (out.new ≡ after result out.old (drawn out.old w 1 (row_mean a.now b.now))) }
 {
     luma::avg_row_into(a, b, w, out)
 }
 
-#[unsafe(no_mangle)]
-pub extern "C" fn inter_edge_count(
+pub fn inter_edge_count(
     cw: usize,
     ch: usize,
     x0: usize,
@@ -322,27 +302,19 @@ pub extern "C" fn inter_edge_count(
     edge::edge_count(cw, ch, x0, y0, bw, bh, mvx, mvy)
 }
 
-#[unsafe(no_mangle)]
-pub extern "C" fn inter_median3(a: i32, b: i32, c: i32) -> i32
+pub fn inter_median3(a: i32, b: i32, c: i32) -> i32
     ensures { result ≡ median a b c }
 {
     vectors::median3(a, b, c)
 }
 
-#[unsafe(no_mangle)]
-pub extern "C" fn inter_predict_mv(
-    a: MvNeighbor,
-    b: MvNeighbor,
-    c: MvNeighbor,
-    cur_ref: i32,
-) -> MvAnswer
+pub fn inter_predict_mv(a: MvNeighbor, b: MvNeighbor, c: MvNeighbor, cur_ref: i32) -> MvAnswer
     ensures { result ≡ predict_answer a b c cur_ref }
 {
     vectors::predict_mv(a, b, c, cur_ref)
 }
 
-#[unsafe(no_mangle)]
-pub extern "C" fn inter_predict_partition_mv(
+pub fn inter_predict_partition_mv(
     mode: u8,
     part: usize,
     a: MvNeighbor,
@@ -355,8 +327,7 @@ pub extern "C" fn inter_predict_partition_mv(
     vectors::predict_partition_mv(mode, part, a, b, c, cur_ref)
 }
 
-#[unsafe(no_mangle)]
-pub extern "C" fn inter_inter_partitions(mode: u8) -> Partitions
+pub fn inter_inter_partitions(mode: u8) -> Partitions
     ensures { result ≡ partitions_of mode }
 {
     vectors::inter_partitions(mode)
