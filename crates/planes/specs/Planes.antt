@@ -1,5 +1,5 @@
 -- Half-sample planes, document 01, "Planes with margins": f is the picture padded; h, v and c hold b, h and j of f at each place, clamping at f's edges. Assumes nothing.
-use Rattle.std.specs.Prelude.{List, [], ◌∷◌, ◌++◌, ℕ, ◌+◌, ◌*◌, pos, ◌-ℤ◌}
+use Rattle.std.specs.Prelude.{List, [], ◌∷◌, ℕ, ◌+◌, ◌*◌, pos, ◌-ℤ◌}
 use Rattle.grid.specs.Block.{block}
 use Rattle.place.specs.Picture.{sample_at, window}
 use Rattle.place.specs.Refusal.{bad_sides, bad_pad, short, lowest}

@@ -8,7 +8,7 @@ use native.Mathlib.Omega.{arith}
 use lib.Dec.{eqb, lt→ltb, le→leb}
 use lib.IntN.{ℤ, pos, negsuc, neg_ℤ, ◌+ℤ◌, ◌-ℤ◌, ◌*ℤ◌}
 use lib.ListN.{get_or, get_or-map}
-use lib.Signed.{shr_z, ◌<ℤ◌, ◌≤ℤ◌}
+use lib.Signed.{shr_z, ◌<ℤ◌}
 use Rattle.signed.proofs.Diff.{sub_ind}
 use Rattle.signed.proofs.Linear.{diff, diff_pos, diff_same, linear}
 use Rattle.samples.specs.declared.phases.Anchor.{Anchor}

@@ -4,9 +4,7 @@ use mathlib.Core.Bool.{true}
 use mathlib.Core.List.{List, [], ◌∷◌, map}
 use Prim.Native.Nat.{ℕ}
 use lib.IntN.{ℤ, pos, negsuc}
-use Rattle.vectors.specs.declared.Mv.{Mv}
 use Rattle.vectors.specs.declared.MvNeighbor.{MvNeighbor}
-use Rattle.vectors.specs.declared.MvAnswer.{MvAnswer}
 use Rattle.vectors.specs.Median.{median}
 use Rattle.vectors.specs.Predict.{resolved, median_mv, chosen_mv, predicted, bad_reference, predict_answer}
 use Rattle.grid.specs.Block.{sample}

@@ -1,9 +1,11 @@
 // Replays a list of the oracle's answers through the library's calls, and says how many differ.
 #![tactic(auto)]
 
-ghost use Rattle.std.specs.Prelude.{◌≡◌, ◌<◌, length};
+ghost use Rattle.std.specs.Prelude.{◌≡◌, ◌<◌, ◌≤◌, length};
 
 mod say;
+
+use std::io::Read;
 
 // What every output holds before a call.
 const FILL: u8 = 165;
@@ -25,7 +27,7 @@ struct Judged {
 }
 
 // Where the replay stands: the place and the line in the text, how many bytes of pictures there are, and the answers so far.
-#[derive(Drop)]
+#[derive(Clone, Copy)]
 struct State {
     at: usize,
     line: usize,
@@ -81,8 +83,8 @@ fn wide(b: u8) -> usize
     b as usize
 }
 
-fn stopped(st: State, what: &[u8]) -> State {
-    say::at_line(st.line, what);
+fn stopped(rt: &impl Print, st: State, what: &[u8]) -> State {
+    say::at_line(rt, st.line, what);
     let mut end = st;
     end.going = false;
     end
@@ -97,14 +99,14 @@ fn moved(st: State, s: &[u8], at: usize) -> State {
 }
 
 // A line `P place=bytes`: a picture, whose place among the pictures' bytes is its number.
-fn picture(s: &[u8], st: State, pictures: &mut [u8]) -> State {
+fn picture(rt: &impl Print, s: &[u8], st: State, pictures: &mut [u8]) -> State {
     let n = lists::read_numbers(s, lists::past(s, st.at));
     if !n.ok | (n.list[0] != st.pictures) | (lists::byte_at(s, n.next) != b'=') {
-        return stopped(st, b"not a picture's number");
+        return stopped(rt, st, b"not a picture's number");
     }
     let r = lists::read_bytes(s, lists::past(s, n.next), pictures, st.pictures);
     if !r.ok | (lists::byte_at(s, r.next) != b'\n') {
-        return stopped(st, b"not a picture's bytes");
+        return stopped(rt, st, b"not a picture's bytes");
     }
     let mut next = moved(st, s, r.next);
     next.pictures = r.filled;
@@ -193,13 +195,13 @@ fn judge(s: &[u8], line: Line, pictures: &[u8]) -> Judged {
     }
 }
 
-fn counted(st: State, kind: usize, same: bool) -> State {
+fn counted(rt: &impl Print, st: State, kind: usize, same: bool) -> State {
     let mut next = st;
     next.done = std::num::wrapping_add_usize(st.done, 1);
     if kind < lists::MOST {
         next.done_by[kind] = std::num::wrapping_add_usize(next.done_by[kind], 1);
         if !same {
-            say::differs(st.line, kind);
+            say::differs(rt, st.line, kind);
             next.differ = std::num::wrapping_add_usize(st.differ, 1);
             next.differ_by[kind] = std::num::wrapping_add_usize(next.differ_by[kind], 1);
         }
@@ -207,59 +209,59 @@ fn counted(st: State, kind: usize, same: bool) -> State {
     next
 }
 
-fn step(s: &[u8], st: State, pictures: &mut [u8]) -> State {
+fn step(rt: &impl Print, s: &[u8], st: State, pictures: &mut [u8]) -> State {
     if lists::byte_at(s, st.at) == b'P' {
-        return picture(s, st, pictures);
+        return picture(rt, s, st, pictures);
     }
     let line = read_line(s, st.at);
     if !line.ok {
-        return stopped(st, b"not a call and its answer");
+        return stopped(rt, st, b"not a call and its answer");
     }
     let call = line.call;
     let j = judge(s, line, pictures);
     if !j.ok | (lists::byte_at(s, j.next) != b'\n') {
-        return stopped(st, b"not an output's bytes");
+        return stopped(rt, st, b"not an output's bytes");
     }
-    moved(counted(st, call[0], j.same), s, j.next)
+    moved(counted(rt, st, call[0], j.same), s, j.next)
 }
 
 // All lines; there are fewer of them than bytes.
-fn replay(s: &[u8], start: State) -> State {
+fn replay(rt: &impl Print, s: &[u8], start: State) -> State {
     let mut pictures = [0u8; 131072];
     let mut st = start;
     for _ in 0..s.len() {
         if !st.going | (s.len() <= st.at) {
             break;
         }
-        st = step(s, st, &mut pictures);
+        st = step(rt, s, st, &mut pictures);
     }
     st
 }
 
-fn report(st: State) {
+fn report(rt: &impl Print, st: State) {
     let done = st.done_by;
     let differ = st.differ_by;
     for kind in 1..calls::LAST + 1 {
-        say::one_call(kind, done[kind], differ[kind]);
+        say::one_call(rt, kind, done[kind], differ[kind]);
     }
-    say::all_calls(st.done, st.differ);
+    say::all_calls(rt, st.done, st.differ);
 }
 
 // The first line that is no comment has the number of answers, and the checksum of all that follows it.
-fn run(s: &[u8]) {
+fn run(rt: &impl Print, s: &[u8]) {
     let head = after_comments(s);
     let n = lists::read_numbers(s, head.at);
     let count = n.list[0];
     let sum = n.list[1];
     let start = moved(head, s, n.next);
     if !n.ok | (sum != checksum(s, start.at)) {
-        say::at_line(head.line, b"not the checksum of what follows");
+        say::at_line(rt, head.line, b"not the checksum of what follows");
     }
-    let end = replay(s, start);
+    let end = replay(rt, s, start);
     if count != end.done {
-        say::at_line(head.line, b"not the number of answers");
+        say::at_line(rt, head.line, b"not the number of answers");
     }
-    report(end);
+    report(rt, end);
 }
 
 // Room for the list.
@@ -269,8 +271,23 @@ fn no_text() -> [u8; 393216]
     [0; 393216]
 }
 
-fn main() {
+// Reads until buf is full, the input ends or a read fails: that many bytes are at its start.
+fn read_full(input: &mut impl Read, buf: &mut [u8]) -> usize
+    ensures { result ≤ length buf.new }
+{
+    let mut done = 0;
+    while done < buf.len() {
+        let n = input.read(&mut buf[done..]).unwrap_or(0);
+        if n == 0 {
+            break;
+        }
+        done += n;
+    }
+    done
+}
+
+fn main(rt: HostRuntime) {
     let mut s = no_text();
-    let n = io::read_full(0, &mut s);
-    run(&s[..n]);
+    let n = read_full(&mut rt.stdin(), &mut s);
+    run(&rt, &s[..n]);
 }

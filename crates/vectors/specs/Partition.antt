@@ -1,8 +1,7 @@
 -- Partitions and their vectors, document 01, "Vectors" (Rec. ITU-T H.264, clause 8.4.1.3), over the integers.
 -- Assumes nothing.
-use Rattle.std.specs.Prelude.{ℕ, Bool, ◌&&◌, List, [], ◌∷◌, ℤ, ◌==◌}
+use Rattle.std.specs.Prelude.{ℕ, Bool, ◌&&◌, [], ◌∷◌, ℤ, ◌==◌}
 use Rattle.signed.specs.Order.{eq_z}
-use Rattle.vectors.specs.declared.Mv.{Mv}
 use Rattle.vectors.specs.declared.MvNeighbor.{MvNeighbor}
 use Rattle.vectors.specs.declared.MvAnswer.{MvAnswer}
 use Rattle.vectors.specs.declared.Rect.{Rect}

@@ -1,6 +1,6 @@
 -- Vector prediction, document 01, "Vectors" (Rec. ITU-T H.264, clause 8.4.1.3), over the integers.
 -- Assumes nothing.
-use Rattle.std.specs.Prelude.{ℕ, Bool, true, false, not, ◌&&◌, ◌||◌, ℤ, pos, negsuc, int_lt}
+use Rattle.std.specs.Prelude.{Bool, true, false, not, ◌&&◌, ◌||◌, ℤ, pos, negsuc, int_lt}
 use Rattle.signed.specs.Order.{eq_z}
 use Rattle.std.specs.Int.Signed.{le_z}
 use Rattle.vectors.specs.declared.Mv.{Mv}

@@ -1,7 +1,6 @@
 -- One more position: it counts or not, by its test.
-use Rattle.std.proofs.Common.{◌≡◌, ◌+◌, ◌*◌, ◌/◌, ◌%◌, ◌<◌, ◌||◌, Bool, sym, ap₂, ◌∙◌, arith}
+use Rattle.std.proofs.Common.{◌≡◌, ◌||◌, Bool, sym, ap₂, ◌∙◌, arith}
 use native.Mathlib.Nat.{le_antisymm}
-use Rattle.grid.proofs.Fill.{in_block}
 use Rattle.edge.proofs.Count.{count_yes, count_no, count_none, count_done}
 use Rattle.edge.proofs.count_off.Invariants.{test}
 use Rattle.edge.proofs.count_off.Goals as goal
@@ -16,7 +15,7 @@ loop-k-preserved c =
     let t : test c.args.x c.args.y c.args.w c.args.h c.args.bw c.loop-k.k ≡ c.is_off.result || c.is_off-in-loop-k.result =
     sym (ap₂ (λ (s u : Bool). s || u) c.is_off.ensures c.is_off-in-loop-k.ensures) in
     elim c.if-is_off.branch [
-      then-is_off w ↦ record { upto = omega arith; few = omega arith; is = w.n-is ∙ count_yes _ _ _ inv.is (t ∙ w.if-is_off.true) }
+      | then-is_off w ↦ record { upto = omega arith; few = omega arith; is = w.n-is ∙ count_yes _ _ _ inv.is (t ∙ w.if-is_off.true) }
       | else-is_off w ↦ record { upto = omega arith; few = omega arith; is = w.n-is ∙ count_no _ _ _ inv.is (t ∙ w.if-is_off.false) }
     ]
 

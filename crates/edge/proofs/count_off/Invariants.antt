@@ -1,5 +1,5 @@
 -- The loop's invariant: n counts the first k positions.
-use Rattle.std.proofs.Common.{ℕ, ◌+◌, ◌*◌, ◌/◌, ◌%◌, ◌^◌, ◌≤◌, ◌≡◌, Bool, ◌||◌}
+use Rattle.std.proofs.Common.{ℕ, ◌+◌, ◌/◌, ◌%◌, ◌^◌, ◌≤◌, ◌≡◌, Bool, ◌||◌}
 use lib.IntN.{sub_ℕ}
 use Rattle.edge.specs.Edge.{count, off}
 use Rattle.edge.proofs.count_off.Given as goal
@@ -12,5 +12,5 @@ abbrev pub invariant-loop-k : goal.invariant-loop-k
 invariant-loop-k l = record {
   upto : l.k ≤ l.total;
   few : l.n ≤ l.k;
-  is : l.n ≡ count l.k (test l.x l.y l.w l.h l.bw)
+  is : l.n ≡ count l.k (test l.x l.y l.w l.h l.bw);
 }

@@ -1,7 +1,6 @@
 -- `lent::luma_arrays` meets its contract: the scratch's arrays are long enough. Assumes nothing.
 use borrow.Author.Rules.{rules}
-use mathlib.Core.Path.{◌≡◌, ◌∙◌}
-use native.Mathlib.Omega.{arith}
+use mathlib.Core.Path.{◌∙◌}
 use mir.Facts.{to_z-of_z}
 use Rattle.lent.proofs.Long.{long_scratch}
 use Rattle.lent.proofs.luma_arrays.Statement.{statement}

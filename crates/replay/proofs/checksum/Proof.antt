@@ -3,10 +3,10 @@ use Rattle.std.proofs.Common.{◌-◌, ◌<◌, rules}
 use Rattle.replay.proofs.checksum.Statement.{statement}
 use Rattle.replay.proofs.checksum.Tie as tie
 
-abbrev invariant-loop : tie.invariant-loop
+abbrev invariant-loop : tie.invariant-loop-i
 invariant-loop s from a₀ b₀ i₀ i-end a b i = (a < 65521) × (b < 65521)
 
-abbrev decreases-loop : tie.decreases-loop
+abbrev decreases-loop : tie.decreases-loop-i
 decreases-loop s from a₀ b₀ i₀ i-end a b i = i-end - i
 
 pub checksum_spec : {M : Type 1} → statement M

@@ -1,2 +1,0 @@
--- Laws that proofs of this crate cite.
-mod Runs
