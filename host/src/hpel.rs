@@ -3,24 +3,7 @@
 // The parameters are those of inter.rs, in its order, then the outputs.
 #![allow(clippy::too_many_arguments)]
 
-use crate::{ffi, Refusal};
-
-/// Four planes of one picture of `cw` by `ch` samples, lent together: the picture inside margins of
-/// `pad`, and its half samples across, down and at the centre, at each place of the first.
-///
-/// Sides are 1 to 8192 and the pad 0 to 128. Each plane holds at least `cw` + 2·`pad` by
-/// `ch` + 2·`pad` bytes, without a gap between rows, read or not. The calls read what the planes
-/// hold, whether [`build_hpel_planes`] has written it or not.
-#[derive(Clone, Copy, Debug)]
-pub struct HpelPlanes<'a> {
-    pub f: &'a [u8],
-    pub h: &'a [u8],
-    pub v: &'a [u8],
-    pub c: &'a [u8],
-    pub cw: usize,
-    pub ch: usize,
-    pub pad: usize,
-}
+use crate::{ffi, HpelPlanes, Refusal};
 
 /// Where the samples of a block lie: row y from `offset` + y·`stride` on in plane 0 (f), 1 (h),
 /// 2 (v) or 3 (c).
@@ -36,20 +19,6 @@ pub struct HpelSpot {
 pub struct View<'a> {
     pub samples: &'a [u8],
     pub stride: usize,
-}
-
-impl<'a> HpelPlanes<'a> {
-    /// The tail of one of the planes.
-    #[inline]
-    fn view(self, spot: HpelSpot) -> View<'a> {
-        let plane = match spot.plane {
-            0 => self.f,
-            1 => self.h,
-            2 => self.v,
-            _ => self.c,
-        };
-        View { samples: &plane[spot.offset..], stride: spot.stride }
-    }
 }
 
 /// Puts a picture of `w` by `h` samples inside margins of `pad` that hold its nearest samples.

@@ -3,22 +3,9 @@
 // The parameters are those of inter.rs, in its order, with the geometry as one.
 #![allow(clippy::too_many_arguments)]
 
-use crate::{ffi, Refusal};
+use crate::{ffi, Geometry, Refusal};
 
 pub use crate::ffi::McScratch;
-
-/// How a picture of `pw` by `ph` samples lies in its buffer: the first sample stands `pad` columns
-/// and `pad` rows on, in rows that start `stride` bytes apart.
-///
-/// Sides are 1 to 8192, the pad 0 to 128, and the stride from `pw` + 2·`pad` up to 16384. The
-/// buffer holds at least `stride` by `ph` + 2·`pad` bytes.
-#[derive(Clone, Copy, Debug, PartialEq, Eq, Hash)]
-pub struct Geometry {
-    pub stride: usize,
-    pub pad: usize,
-    pub pw: usize,
-    pub ph: usize,
-}
 
 /// Fills the margins from the picture: those at the left and right of each of its rows, then the
 /// rows above and below, which are copies of its first and last with all their bytes.

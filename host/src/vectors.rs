@@ -5,12 +5,6 @@ use crate::Refusal;
 
 pub use crate::ffi::{Mv, MvNeighbor, Partitions, Rect};
 
-impl MvNeighbor {
-    /// A neighbour that is not available.
-    pub const NONE: MvNeighbor =
-        MvNeighbor { available: false, mv: Mv { x: 0, y: 0 }, ref_idx: -1 };
-}
-
 impl Partitions {
     /// The parts, in decoding order: one, two or four.
     pub fn parts(&self) -> &[Rect] {
