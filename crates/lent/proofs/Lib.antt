@@ -1,3 +1,3 @@
--- The walks over lent records, and that their contracts determine their outcomes.
+-- A scratch that is long enough, and that the contract over it determines its outcome.
 pub mod Long
 pub mod Only

@@ -1,6 +1,6 @@
 -- Nothing else satisfies the contract of `mc_luma_padded_pre`: two outcomes for which it holds, of the same arguments, have one answer and the same
--- bytes in `out`; after a refusal the scratch is as it was, and after 0 it is free. The language generates no reading of a function that is proved
--- by a walk, so this stands on `Predicted`, which is the whole of its contract. Assumes nothing.
+-- bytes in `out`; after a refusal the scratch is as it was, and after 0 it is free. It stands on `Predicted`, which is the whole of its contract.
+-- Assumes nothing.
 use mathlib.Core.Path.{◌≡◌, ap, ◌∙◌}
 use mathlib.Core.List.{List}
 use Prim.Native.Nat.{ℕ, suc}

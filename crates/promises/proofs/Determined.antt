@@ -188,7 +188,7 @@ inter_inter_predict_partition_mv x s t p q a b = (a ∙ sym b, refl)
 pub inter_inter_inter_partitions : Determined (inter-inter-inter-partitions-reads.Post tt) (λ s. [])
 inter_inter_inter_partitions x s t p q a b = (a ∙ sym b, refl)
 
--- ---- Calls that are proved by a walk, of which the language makes no reading: the whole contract is a record or an equation, which stands here instead
+-- ---- Calls over a lent record: the whole contract is a record or an equation, which stands here itself
 
 module _ (padded : List ℕ) (stride pad pw ph x0 y0 bw bh : ℕ) (mvx mvy : ℤ) where
   -- tile, a, b and out
