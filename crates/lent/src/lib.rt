@@ -8,7 +8,7 @@ use margins::Geometry;
 
 // The scratch of the luma route: a tile of 21 by 21 samples and two anchors.
 #[repr(C)]
-#[derive(Drop)]
+#[derive(Clone, Copy)]
 pub struct McScratch {
     pub tile: [u8; 441],
     pub a: [u8; 256],

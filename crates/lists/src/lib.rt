@@ -11,7 +11,7 @@ pub struct Number {
     pub ok: bool,
 }
 
-#[derive(Drop)]
+#[derive(Clone, Copy)]
 pub struct Numbers {
     pub list: [usize; 24],
     pub next: usize,
@@ -19,7 +19,7 @@ pub struct Numbers {
 }
 
 // Up to where the buffer is filled, and what follows in the text.
-#[derive(Drop)]
+#[derive(Clone, Copy)]
 pub struct Read {
     pub filled: usize,
     pub next: usize,
