@@ -1,5 +1,5 @@
 -- Nothing else satisfies a public contract, call by call: the theorem is named by the crate and the call. `Post` is the contract as Rattle reads it from the source.
--- tools/determined compares this file with the public functions of every crate of the counter and of the exports. Assumes nothing.
+-- tools/determined compares this file with the public functions of every crate of the counter and of `inter`, whose clauses the exports repeat. Assumes nothing.
 use mathlib.Core.Path.{◌≡◌, refl, sym, ◌∙◌}
 use mathlib.Core.List.{List, [], ◌∷◌}
 use denote.Ref.{Bor}
@@ -135,7 +135,7 @@ hpel_hpel_block κs x s t p q a b = (cc, cc)
 pub lent_luma_arrays : (κs : Lfts 5) → Determined (lent-luma-arrays-reads.Post κs) (λ s. s.1.1.1.1.1.1.1.1.1.1.1.1.1.1.0.now ∷ [])
 lent_luma_arrays κs x s t p q a b = (cc, cc)
 
--- ---- The C exports
+-- ---- The calls as C has them
 
 pub inter_inter_mc_luma : (κs : Lfts 2) → Determined (inter-inter-mc-luma-reads.Post κs) (λ s. s.1.1.1.1.1.1.1.1.1.0.now ∷ [])
 inter_inter_mc_luma κs x s t p q a b = (cc, cc)
@@ -188,7 +188,7 @@ inter_inter_predict_partition_mv x s t p q a b = (a ∙ sym b, refl)
 pub inter_inter_inter_partitions : Determined (inter-inter-inter-partitions-reads.Post tt) (λ s. [])
 inter_inter_inter_partitions x s t p q a b = (a ∙ sym b, refl)
 
--- ---- Calls over a lent record: the whole contract is a record or an equation, which stands here itself
+-- ---- Calls over a lent record: the whole contract is a record or an equation, which stands here itself; on the readings in proofs/Only.antt of lent, bundle and inter
 
 module _ (padded : List ℕ) (stride pad pw ph x0 y0 bw bh : ℕ) (mvx mvy : ℤ) where
   -- tile, a, b and out

@@ -1,0 +1,2 @@
+-- That the five contracts determine their outcomes.
+pub mod Only
