@@ -23,8 +23,10 @@ ghost use Rattle.edge.specs.Edge.{edge_refusal, outside_count, answer};
 use edge::Edges;
 use hpel::{HpelAt, HpelPair};
 use lent::McScratch;
-use margins::Geometry;
-use vectors::{MvAnswer, MvNeighbor, Partitions};
+use terms::block::{Block, Mv};
+use terms::plane::{Geometry, Plane};
+use terms::refusal::number;
+use vectors::{MvAnswer, MvNeighbor, Neighbors, Partitions};
 
 pub fn inter_mc_luma(
     reference: &[u8],
@@ -41,7 +43,19 @@ pub fn inter_mc_luma(
     ensures { (result ≡ plain_block_refusal 16 (length reference.now) cw ch x0 y0 bw bh (length out.old))
         × (out.new ≡ after result out.old (drawn out.old bw bh (predicted_luma reference.now cw ch x0 y0 mvx mvy))) }
 {
-    luma::mc_luma(reference, cw, ch, x0, y0, bw, bh, mvx, mvy, out)
+    let plane = Plane {
+        samples: reference,
+        w: cw,
+        h: ch,
+    };
+    let block = Block {
+        x: x0,
+        y: y0,
+        w: bw,
+        h: bh,
+        mv: Mv { x: mvx, y: mvy },
+    };
+    number(luma::mc_luma(plane, block, out))
 }
 
 pub fn inter_mc_chroma(
@@ -59,7 +73,19 @@ pub fn inter_mc_chroma(
     ensures { (result ≡ plain_block_refusal 8 (length reference.now) cw ch x0 y0 bw bh (length out.old))
         × (out.new ≡ after result out.old (drawn out.old bw bh (predicted_chroma reference.now cw ch x0 y0 mvx mvy))) }
 {
-    chroma::mc_chroma(reference, cw, ch, x0, y0, bw, bh, mvx, mvy, out)
+    let plane = Plane {
+        samples: reference,
+        w: cw,
+        h: ch,
+    };
+    let block = Block {
+        x: x0,
+        y: y0,
+        w: bw,
+        h: bh,
+        mv: Mv { x: mvx, y: mvy },
+    };
+    number(chroma::mc_chroma(plane, block, out))
 }
 
 pub fn inter_expand_plane(buf: &mut [u8], stride: usize, pad: usize, pw: usize, ph: usize) -> u32
@@ -67,12 +93,12 @@ pub fn inter_expand_plane(buf: &mut [u8], stride: usize, pad: usize, pw: usize, 
         × (buf.new ≡ after result buf.old (expanded buf.old stride pad pw ph)) }
 {
     let g = Geometry {
-        stride: stride,
-        pad: pad,
-        pw: pw,
-        ph: ph,
+        stride,
+        pad,
+        pw,
+        ph,
     };
-    margins::expand_plane(buf, g)
+    number(margins::expand_plane(buf, g))
 }
 
 pub fn inter_mc_luma_padded(
@@ -93,12 +119,19 @@ pub fn inter_mc_luma_padded(
         × (out.new ≡ after result out.old (drawn out.old bw bh (padded_luma padded.now stride pad pw ph x0 y0 bw bh mvx mvy))) }
 {
     let g = Geometry {
-        stride: stride,
-        pad: pad,
-        pw: pw,
-        ph: ph,
+        stride,
+        pad,
+        pw,
+        ph,
     };
-    padded::mc_luma_padded(padded, g, x0, y0, bw, bh, mvx, mvy, out)
+    let block = Block {
+        x: x0,
+        y: y0,
+        w: bw,
+        h: bh,
+        mv: Mv { x: mvx, y: mvy },
+    };
+    number(padded::mc_luma_padded(padded, g, block, out))
 }
 
 pub fn inter_mc_luma_padded_pre(
@@ -118,23 +151,20 @@ pub fn inter_mc_luma_padded_pre(
 ) -> u32
     ensures { Predicted scr.old.tile scr.old.a scr.old.b padded.now stride pad pw ph x0 y0 bw bh mvx mvy out.old scr.new.tile scr.new.a scr.new.b out.new result }
 {
-    lent::luma_arrays(
-        &mut scr.tile,
-        &mut scr.a,
-        &mut scr.b,
-        padded,
+    let g = Geometry {
         stride,
         pad,
         pw,
         ph,
-        x0,
-        y0,
-        bw,
-        bh,
-        mvx,
-        mvy,
-        out,
-    )
+    };
+    let block = Block {
+        x: x0,
+        y: y0,
+        w: bw,
+        h: bh,
+        mv: Mv { x: mvx, y: mvy },
+    };
+    number(lent::luma_arrays(&mut scr.tile, &mut scr.a, &mut scr.b, padded, g, block, out))
 }
 
 pub fn inter_mc_chroma_padded(
@@ -155,12 +185,19 @@ pub fn inter_mc_chroma_padded(
         × (out.new ≡ after result out.old (drawn out.old bw bh (padded_chroma padded.now stride pad pw ph x0 y0 bw bh mvx mvy))) }
 {
     let g = Geometry {
-        stride: stride,
-        pad: pad,
-        pw: pw,
-        ph: ph,
+        stride,
+        pad,
+        pw,
+        ph,
     };
-    padded::mc_chroma_padded(padded, g, x0, y0, bw, bh, mvx, mvy, out)
+    let block = Block {
+        x: x0,
+        y: y0,
+        w: bw,
+        h: bh,
+        mv: Mv { x: mvx, y: mvy },
+    };
+    number(padded::mc_chroma_padded(padded, g, block, out))
 }
 
 pub fn inter_mc_chroma_padded_pair(
@@ -184,19 +221,27 @@ pub fn inter_mc_chroma_padded_pair(
         × (outv.new ≡ after result outv.old (drawn outv.old bw bh (padded_chroma pv.now stride pad pw ph x0 y0 bw bh mvx mvy))) }
 {
     let g = Geometry {
-        stride: stride,
-        pad: pad,
-        pw: pw,
-        ph: ph,
+        stride,
+        pad,
+        pw,
+        ph,
     };
-    padded::mc_chroma_padded_pair(pu, pv, g, x0, y0, bw, bh, mvx, mvy, outu, outv)
+    let block = Block {
+        x: x0,
+        y: y0,
+        w: bw,
+        h: bh,
+        mv: Mv { x: mvx, y: mvy },
+    };
+    number(padded::mc_chroma_padded_pair(pu, pv, g, block, outu, outv))
 }
 
 pub fn inter_pad_plane(src: &[u8], w: usize, h: usize, pad: usize, out: &mut [u8]) -> u32
     ensures { (result ≡ pad_refusal (length src.now) w h pad (length out.old))
         × (out.new ≡ after result out.old (drawn out.old (wide w pad) (wide h pad) (padded_at src.now w h pad))) }
 {
-    planes::pad_plane(src, w, h, pad, out)
+    let plane = Plane { samples: src, w, h };
+    number(planes::pad_plane(plane, pad, out))
 }
 
 pub fn inter_build_hpel_planes(
@@ -215,7 +260,12 @@ pub fn inter_build_hpel_planes(
         × (v.new ≡ after result v.old (drawn v.old (wide cw pad) (wide ch pad) (down_at (padded_plane reference.now cw ch pad) (wide cw pad) (wide ch pad))))
         × (c.new ≡ after result c.old (drawn c.old (wide cw pad) (wide ch pad) (centre_at (padded_plane reference.now cw ch pad) (wide cw pad) (wide ch pad)))) }
 {
-    planes::build_hpel_planes(reference, cw, ch, pad, f, h, v, c)
+    let plane = Plane {
+        samples: reference,
+        w: cw,
+        h: ch,
+    };
+    number(planes::build_hpel_planes(plane, pad, f, h, v, c))
 }
 
 pub fn inter_hpel_ref<'a>(
@@ -235,7 +285,14 @@ pub fn inter_hpel_ref<'a>(
 ) -> HpelAt
     ensures { result ≡ ref_at (length f.now) (length h.now) (length v.now) (length c.now) cw ch pad x0 y0 bw bh mvx mvy }
 {
-    hpel::hpel_ref_at(f, h, v, c, cw, ch, pad, x0, y0, bw, bh, mvx, mvy)
+    let block = Block {
+        x: x0,
+        y: y0,
+        w: bw,
+        h: bh,
+        mv: Mv { x: mvx, y: mvy },
+    };
+    HpelAt::from(hpel::hpel_ref_at(f, h, v, c, cw, ch, pad, block))
 }
 
 pub fn inter_hpel_qpel_refs<'a>(
@@ -255,7 +312,14 @@ pub fn inter_hpel_qpel_refs<'a>(
 ) -> HpelPair
     ensures { result ≡ qpel_at (length f.now) (length h.now) (length v.now) (length c.now) cw ch pad x0 y0 bw bh mvx mvy }
 {
-    hpel::hpel_qpel_refs_at(f, h, v, c, cw, ch, pad, x0, y0, bw, bh, mvx, mvy)
+    let block = Block {
+        x: x0,
+        y: y0,
+        w: bw,
+        h: bh,
+        mv: Mv { x: mvx, y: mvy },
+    };
+    HpelPair::from(hpel::hpel_qpel_refs_at(f, h, v, c, cw, ch, pad, block))
 }
 
 pub fn inter_hpel_block<'a>(
@@ -277,14 +341,21 @@ pub fn inter_hpel_block<'a>(
     ensures { (result ≡ block_refusal (length f.now) (length h.now) (length v.now) (length c.now) cw ch pad x0 y0 bw bh mvx mvy (length out.old))
         × (out.new ≡ after result out.old (drawn out.old bw bh (hpel_sample f.now h.now v.now c.now cw pad x0 y0 mvx mvy))) }
 {
-    hpel::hpel_block(f, h, v, c, cw, ch, pad, x0, y0, bw, bh, mvx, mvy, out)
+    let block = Block {
+        x: x0,
+        y: y0,
+        w: bw,
+        h: bh,
+        mv: Mv { x: mvx, y: mvy },
+    };
+    number(hpel::hpel_block(f, h, v, c, cw, ch, pad, block, out))
 }
 
 pub fn inter_avg_row_into(a: &[u8], b: &[u8], w: usize, out: &mut [u8]) -> u32
     ensures { (result ≡ row_refusal (length a.now) (length b.now) w (length out.old))
         × (out.new ≡ after result out.old (drawn out.old w 1 (row_mean a.now b.now))) }
 {
-    luma::avg_row_into(a, b, w, out)
+    number(luma::avg_row_into(a, b, w, out))
 }
 
 pub fn inter_edge_count(
@@ -299,7 +370,14 @@ pub fn inter_edge_count(
 ) -> Edges
     ensures { result ≡ answer (edge_refusal cw ch x0 y0 bw bh) (outside_count cw ch x0 y0 bw bh mvx mvy) }
 {
-    edge::edge_count(cw, ch, x0, y0, bw, bh, mvx, mvy)
+    let block = Block {
+        x: x0,
+        y: y0,
+        w: bw,
+        h: bh,
+        mv: Mv { x: mvx, y: mvy },
+    };
+    Edges::from(edge::edge_count(cw, ch, block))
 }
 
 pub fn inter_median3(a: i32, b: i32, c: i32) -> i32
@@ -311,7 +389,7 @@ pub fn inter_median3(a: i32, b: i32, c: i32) -> i32
 pub fn inter_predict_mv(a: MvNeighbor, b: MvNeighbor, c: MvNeighbor, cur_ref: i32) -> MvAnswer
     ensures { result ≡ predict_answer a b c cur_ref }
 {
-    vectors::predict_mv(a, b, c, cur_ref)
+    MvAnswer::from(vectors::predict_mv(Neighbors { a, b, c }, cur_ref))
 }
 
 pub fn inter_predict_partition_mv(
@@ -324,7 +402,8 @@ pub fn inter_predict_partition_mv(
 ) -> MvAnswer
     ensures { result ≡ partition_answer mode part a b c cur_ref }
 {
-    vectors::predict_partition_mv(mode, part, a, b, c, cur_ref)
+    let near = Neighbors { a, b, c };
+    MvAnswer::from(vectors::predict_partition_mv(mode, part, near, cur_ref))
 }
 
 pub fn inter_inter_partitions(mode: u8) -> Partitions

@@ -14,32 +14,33 @@ use Rattle.luma.proofs.mc_luma.Reads as plain
 use Rattle.padded.proofs.mc_luma_padded.Reads as padded
 use Rattle.padded.proofs.mc_luma_padded_slices.Reads as slices
 use Rattle.padded.proofs.Only.{Block, Lent, out}
+use Rattle.std.specs.Prelude.{Ok}
 use Rattle.lent.specs.Lent.{Predicted}
 use Rattle.hpel.proofs.Only.{Written}
 use Rattle.hpel.proofs.Only as calls
 use Rattle.hpel.proofs.hpel_block.Reads as hpel
 use Rattle.promises.specs.Made.{Margins, Derived}
 use Rattle.promises.proofs.BoundedCalls.{drawn_bounded, BoundedBlock, plain_window}
-use Rattle.promises.proofs.Routes.{Draws, mc_luma_draws, mc_luma_padded_draws, mc_luma_padded_slices_draws, mc_luma_padded_pre_draws, hpel_block_draws}
+use Rattle.promises.proofs.Routes.{asked_for, Draws, mc_luma_draws, mc_luma_padded_draws, mc_luma_padded_slices_draws, mc_luma_padded_pre_draws, hpel_block_draws}
 
 -- the picture lent to the plain route, the block and its vector
 module _ (pic : Bor (List ℕ)) (w ht x0 y0 bw bh : ℕ) (mvx mvy : ℤ) where
   abbrev margined : (pad stride : ℕ) (buf : Bor (List ℕ)) (o : MutBor (List ℕ)) → Block
-  margined pad stride buf o = (buf, (record { stride = stride; pad = pad; pw = w; ph = ht }, (x0, (y0, (bw, (bh, (mvx, (mvy, (o, tt)))))))))
+  margined pad stride buf o = (buf, (record { stride = stride; pad = pad; pw = w; ph = ht }, (asked_for x0 y0 bw bh mvx mvy, (o, tt))))
 
   -- A ROUTE ANSWERED 0 for the block and left this output: the plain route; the padded one, with its own scratch, with lent slices
   -- and with a lent record, on margins made from the picture; the hpel one, on planes derived from the picture
   pub data Answered : List ℕ → Type 0 where
-    plainly : (κs : Lfts 2) (o : MutBor (List ℕ)) (s : _) → plain.Post κs (pic, (w, (ht, (x0, (y0, (bw, (bh, (mvx, (mvy, (o, tt)))))))))) 0 s
-        → Answered s.1.1.1.1.1.1.1.1.1.0.now
+    plainly : (κs : Lfts 2) (o : MutBor (List ℕ)) (s : _) → plain.Post κs (record { samples = pic; w = w; h = ht }, (asked_for x0 y0 bw bh mvx mvy, (o, tt))) (Ok tt) s
+        → Answered s.1.1.0.now
     by_margins : (pad stride : ℕ) (buf : Bor (List ℕ)) (o : MutBor (List ℕ)) → Margins pic.now w ht pad stride buf.now
-        → (κs : Lfts 2) (s : Block) → padded.Post κs (margined pad stride buf o) 0 s → Answered (out s)
+        → (κs : Lfts 2) (s : Block) → padded.Post κs (margined pad stride buf o) (Ok tt) s → Answered (out s)
     by_slices : (pad stride : ℕ) (buf : Bor (List ℕ)) (o : MutBor (List ℕ)) → Margins pic.now w ht pad stride buf.now
-        → (κs : Lfts 5) (tile a b : MutBor (List ℕ)) (s : Lent) → slices.Post κs (tile, (a, (b, margined pad stride buf o))) 0 s → Answered (out s.1.1.1)
+        → (κs : Lfts 5) (tile a b : MutBor (List ℕ)) (s : Lent) → slices.Post κs (tile, (a, (b, margined pad stride buf o))) (Ok tt) s → Answered (out s.1.1.1)
     by_record : (pad stride : ℕ) (buf : List ℕ) → Margins pic.now w ht pad stride buf
         → (t a b o t' a' b' o' : List ℕ) → Predicted t a b buf stride pad w ht x0 y0 bw bh mvx mvy o t' a' b' o' 0 → Answered o'
     by_planes : (pad : ℕ) (f h v c : Bor (List ℕ)) → Derived pic.now w ht pad f.now h.now v.now c.now
-        → (κs : Lfts 2) (o : MutBor (List ℕ)) (s : Written) → hpel.Post κs (f, (h, (v, (c, (w, (ht, (pad, (x0, (y0, (bw, (bh, (mvx, (mvy, (o, tt)))))))))))))) 0 s
+        → (κs : Lfts 2) (o : MutBor (List ℕ)) (s : Written) → hpel.Post κs (f, (h, (v, (c, (w, (ht, (pad, (asked_for x0 y0 bw bh mvx mvy, (o, tt))))))))) (Ok tt) s
         → Answered (calls.out s)
 
   -- the output is one in which the standard's block was drawn

@@ -11,7 +11,9 @@ use Rattle.grid.proofs.Fill.{drawn_at}
 use Rattle.place.specs.Place.{luma_place, phase}
 use Rattle.place.specs.Picture.{window}
 use Rattle.samples.specs.Phase.{Window, luma_sample}
-use Rattle.margins.specs.declared.Geometry.{Geometry}
+use Rattle.std.specs.Prelude.{Ok}
+use Rattle.terms.specs.declared.plane.Geometry.{Geometry}
+use Rattle.terms.specs.declared.block.Block as asked
 use Rattle.luma.specs.Luma.{predicted_luma}
 use Rattle.luma.proofs.mc_luma.Reads as plain
 use Rattle.window.specs.Padded.{luma_direct, read_at, padded_luma}
@@ -31,6 +33,9 @@ drawn_bounded top fx fy bw bh W old l e = λ c r a b.
     (sym (ap (λ (t : List ℕ). get_or t (r * bw + c) 0) e ∙ drawn_at old bw bh _ c r a b)) (within top fx fy (W c r), near_mean top fx fy (W c r))
 
 module _ (x0 y0 bw bh : ℕ) (mvx mvy : ℤ) where
+  abbrev asked_for : asked.Block
+  asked_for = record { x = x0; y = y0; w = bw; h = bh; mv = record { x = mvx; y = mvy } }
+
   -- of a block of this place and vector
   abbrev pub BoundedBlock : (ℕ → ℕ → Window) → List ℕ → Type 0
   BoundedBlock = Bounded 255 (phase mvx 4) (phase mvy 4) bw bh
@@ -42,24 +47,24 @@ module _ (x0 y0 bw bh : ℕ) (mvx mvy : ℤ) where
   padded_window buf stride pad w h c r i j =
       read_at (luma_direct w h pad x0 y0 bw bh mvx mvy) buf stride pad w h (luma_place x0 mvx c +ℤ pos i -ℤ pos 2) (luma_place y0 mvy r +ℤ pos j -ℤ pos 2)
 
-  pub mc_luma_bounded : (κs : Lfts 2) (pic : Bor (List ℕ)) (o : MutBor (List ℕ)) (w h : ℕ) (s : _) → plain.Post κs (pic, (w, (h, (x0, (y0, (bw, (bh, (mvx, (mvy, (o, tt)))))))))) 0 s
-      → BoundedBlock (plain_window pic.now w h) s.1.1.1.1.1.1.1.1.1.0.now
+  pub mc_luma_bounded : (κs : Lfts 2) (pic : Bor (List ℕ)) (o : MutBor (List ℕ)) (w h : ℕ) (s : _) → plain.Post κs (record { samples = pic; w = w; h = h }, (asked_for, (o, tt))) (Ok tt) s
+      → BoundedBlock (plain_window pic.now w h) s.1.1.0.now
   unfolding predicted_luma
   mc_luma_bounded κs pic o w h s a = drawn_bounded 255 _ _ bw bh _ o.now _ a.1
 
   -- by a plane with margins: with its own scratch, with lent slices, and with a lent record
   module _ (g : Geometry) (buf : Bor (List ℕ)) (o : MutBor (List ℕ)) where
     abbrev block : Block
-    block = (buf, (g, (x0, (y0, (bw, (bh, (mvx, (mvy, (o, tt)))))))))
+    block = (buf, (g, (asked_for, (o, tt))))
 
     abbrev reads : ℕ → ℕ → Window
     reads = padded_window buf.now g.stride g.pad g.pw g.ph
 
-    pub mc_luma_padded_bounded : (κs : Lfts 2) (s : Block) → padded.Post κs block 0 s → BoundedBlock reads (out s)
+    pub mc_luma_padded_bounded : (κs : Lfts 2) (s : Block) → padded.Post κs block (Ok tt) s → BoundedBlock reads (out s)
     unfolding padded_luma
     mc_luma_padded_bounded κs s a = drawn_bounded 255 _ _ bw bh _ o.now _ a.1
 
-    pub mc_luma_padded_slices_bounded : (κs : Lfts 5) (tile ga gb : MutBor (List ℕ)) (s : Lent) → slices.Post κs (tile, (ga, (gb, block))) 0 s
+    pub mc_luma_padded_slices_bounded : (κs : Lfts 5) (tile ga gb : MutBor (List ℕ)) (s : Lent) → slices.Post κs (tile, (ga, (gb, block))) (Ok tt) s
         → BoundedBlock reads (out s.1.1.1)
     unfolding padded_luma
     mc_luma_padded_slices_bounded κs tile ga gb s a = drawn_bounded 255 _ _ bw bh _ o.now _ a.1

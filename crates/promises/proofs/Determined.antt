@@ -60,66 +60,66 @@ pub vectors_median3 : Determined (vectors-median3-reads.Post tt) (λ s. [])
 vectors_median3 x s t p q a b = (a ∙ sym b, refl)
 
 pub vectors_predict_mv : Determined (vectors-predict-mv-reads.Post tt) (λ s. [])
-vectors_predict_mv x s t p q a b = (a ∙ sym b, refl)
+vectors_predict_mv x s t p q a b = (one_mv_answer p q (a ∙ sym b), refl)
 
 pub vectors_predict_partition_mv : Determined (vectors-predict-partition-mv-reads.Post tt) (λ s. [])
-vectors_predict_partition_mv x s t p q a b = (a ∙ sym b, refl)
+vectors_predict_partition_mv x s t p q a b = (one_mv_answer p q (a ∙ sym b), refl)
 
 pub vectors_inter_partitions : Determined (vectors-inter-partitions-reads.Post tt) (λ s. [])
 vectors_inter_partitions x s t p q a b = (a ∙ sym b, refl)
 
 -- ---- The plain luma route, and the average of two rows
 
-pub luma_mc_luma : (κs : Lfts 2) → Determined (luma-mc-luma-reads.Post κs) (λ s. s.1.1.1.1.1.1.1.1.1.0.now ∷ [])
-luma_mc_luma κs x s t p q a b = (cc, cc)
+pub luma_mc_luma : (κs : Lfts 2) → Determined (luma-mc-luma-reads.Post κs) (λ s. s.1.1.0.now ∷ [])
+luma_mc_luma κs x s t p q a b = (one_answer p q (a.0 ∙ sym b.0), cc)
 
 pub luma_avg_row_into : (κs : Lfts 3) → Determined (luma-avg-row-into-reads.Post κs) (λ s. s.1.1.1.0.now ∷ [])
-luma_avg_row_into κs x s t p q a b = (cc, cc)
+luma_avg_row_into κs x s t p q a b = (one_answer p q (a.0 ∙ sym b.0), cc)
 
 -- ---- The plain chroma route
 
-pub chroma_mc_chroma : (κs : Lfts 2) → Determined (chroma-mc-chroma-reads.Post κs) (λ s. s.1.1.1.1.1.1.1.1.1.0.now ∷ [])
-chroma_mc_chroma κs x s t p q a b = (cc, cc)
+pub chroma_mc_chroma : (κs : Lfts 2) → Determined (chroma-mc-chroma-reads.Post κs) (λ s. s.1.1.0.now ∷ [])
+chroma_mc_chroma κs x s t p q a b = (one_answer p q (a.0 ∙ sym b.0), cc)
 
 -- ---- The edge count
 
 pub edge_edge_count : Determined (edge-edge-count-reads.Post tt) (λ s. [])
-edge_edge_count x s t p q a b = (a ∙ sym b, refl)
+edge_edge_count x s t p q a b = (one_edges p q (a ∙ sym b), refl)
 
 -- ---- Margins
 
 pub margins_expand_plane : (κs : Lfts 1) → Determined (margins-expand-plane-reads.Post κs) (λ s. s.0.now ∷ [])
-margins_expand_plane κs x s t p q a b = (cc, cc)
+margins_expand_plane κs x s t p q a b = (one_answer p q (a.0 ∙ sym b.0), cc)
 
 -- ---- Planes with margins; the scratch of the slice form is free after 0 (`scratch_kept` in crates/padded/proofs/Only.antt)
 
-pub padded_mc_luma_padded : (κs : Lfts 2) → Determined (padded-mc-luma-padded-reads.Post κs) (λ s. s.1.1.1.1.1.1.1.1.0.now ∷ [])
-padded_mc_luma_padded κs x s t p q a b = (cc, cc)
+pub padded_mc_luma_padded : (κs : Lfts 2) → Determined (padded-mc-luma-padded-reads.Post κs) (λ s. s.1.1.1.0.now ∷ [])
+padded_mc_luma_padded κs x s t p q a b = (one_answer p q (a.0 ∙ sym b.0), cc)
 
-pub padded_mc_luma_padded_slices : (κs : Lfts 5) → Determined (padded-mc-luma-padded-slices-reads.Post κs) (λ s. s.1.1.1.1.1.1.1.1.1.1.1.0.now ∷ [])
-padded_mc_luma_padded_slices κs x s t p q a b = (cc, cc)
+pub padded_mc_luma_padded_slices : (κs : Lfts 5) → Determined (padded-mc-luma-padded-slices-reads.Post κs) (λ s. s.1.1.1.1.1.1.0.now ∷ [])
+padded_mc_luma_padded_slices κs x s t p q a b = (one_answer p q (a.0 ∙ sym b.0), cc)
 
-pub padded_mc_chroma_padded : (κs : Lfts 2) → Determined (padded-mc-chroma-padded-reads.Post κs) (λ s. s.1.1.1.1.1.1.1.1.0.now ∷ [])
-padded_mc_chroma_padded κs x s t p q a b = (cc, cc)
+pub padded_mc_chroma_padded : (κs : Lfts 2) → Determined (padded-mc-chroma-padded-reads.Post κs) (λ s. s.1.1.1.0.now ∷ [])
+padded_mc_chroma_padded κs x s t p q a b = (one_answer p q (a.0 ∙ sym b.0), cc)
 
-pub padded_mc_chroma_padded_pair : (κs : Lfts 4) → Determined (padded-mc-chroma-padded-pair-reads.Post κs) (λ s. s.1.1.1.1.1.1.1.1.1.0.now ∷ s.1.1.1.1.1.1.1.1.1.1.0.now ∷ [])
-padded_mc_chroma_padded_pair κs x s t p q a b = (cc, cc)
+pub padded_mc_chroma_padded_pair : (κs : Lfts 4) → Determined (padded-mc-chroma-padded-pair-reads.Post κs) (λ s. s.1.1.1.1.0.now ∷ s.1.1.1.1.1.0.now ∷ [])
+padded_mc_chroma_padded_pair κs x s t p q a b = (one_answer p q (a.0 ∙ sym b.0), cc)
 
 -- ---- Half-sample planes: made
 
-pub planes_pad_plane : (κs : Lfts 2) → Determined (planes-pad-plane-reads.Post κs) (λ s. s.1.1.1.1.0.now ∷ [])
-planes_pad_plane κs x s t p q a b = (cc, cc)
+pub planes_pad_plane : (κs : Lfts 2) → Determined (planes-pad-plane-reads.Post κs) (λ s. s.1.1.0.now ∷ [])
+planes_pad_plane κs x s t p q a b = (one_answer p q (a.0 ∙ sym b.0), cc)
 
-pub planes_build_hpel_planes : (κs : Lfts 5) → Determined (planes-build-hpel-planes-reads.Post κs) (λ s. s.1.1.1.1.0.now ∷ s.1.1.1.1.1.0.now ∷ s.1.1.1.1.1.1.0.now ∷ s.1.1.1.1.1.1.1.0.now ∷ [])
-planes_build_hpel_planes κs x s t p q a b = (cc, cc)
+pub planes_build_hpel_planes : (κs : Lfts 5) → Determined (planes-build-hpel-planes-reads.Post κs) (λ s. s.1.1.0.now ∷ s.1.1.1.0.now ∷ s.1.1.1.1.0.now ∷ s.1.1.1.1.1.0.now ∷ [])
+planes_build_hpel_planes κs x s t p q a b = (one_answer p q (a.0 ∙ sym b.0), cc)
 
 -- ---- Half-sample planes: used
 
 pub hpel_hpel_ref_at : (κs : Lfts 1) → Determined (hpel-hpel-ref-at-reads.Post κs) (λ s. [])
-hpel_hpel_ref_at κs x s t p q a b = (a ∙ sym b, refl)
+hpel_hpel_ref_at κs x s t p q a b = (one_at p q (a ∙ sym b), refl)
 
 pub hpel_hpel_qpel_refs_at : (κs : Lfts 1) → Determined (hpel-hpel-qpel-refs-at-reads.Post κs) (λ s. [])
-hpel_hpel_qpel_refs_at κs x s t p q a b = (a ∙ sym b, refl)
+hpel_hpel_qpel_refs_at κs x s t p q a b = (one_pair p q (a ∙ sym b), refl)
 
 pub hpel_hpel_ref : (κs : Lfts 1) → Shown (hpel-hpel-ref-reads.Post κs) (λ x. x.now)
 hpel_hpel_ref κs x s t p q a b = a ∙ sym b
@@ -127,13 +127,13 @@ hpel_hpel_ref κs x s t p q a b = a ∙ sym b
 pub hpel_hpel_qpel_refs : (κs : Lfts 1) → Shown (hpel-hpel-qpel-refs-reads.Post κs) contents
 hpel_hpel_qpel_refs κs x s t p q a b = a ∙ sym b
 
-pub hpel_hpel_block : (κs : Lfts 2) → Determined (hpel-hpel-block-reads.Post κs) (λ s. s.1.1.1.1.1.1.1.1.1.1.1.1.1.0.now ∷ [])
-hpel_hpel_block κs x s t p q a b = (cc, cc)
+pub hpel_hpel_block : (κs : Lfts 2) → Determined (hpel-hpel-block-reads.Post κs) (λ s. s.1.1.1.1.1.1.1.1.0.now ∷ [])
+hpel_hpel_block κs x s t p q a b = (one_answer p q (a.0 ∙ sym b.0), cc)
 
 -- ---- The lent scratch, free after 0 (`scratch_kept` in crates/lent/proofs/Only.antt)
 
-pub lent_luma_arrays : (κs : Lfts 5) → Determined (lent-luma-arrays-reads.Post κs) (λ s. s.1.1.1.1.1.1.1.1.1.1.1.1.1.1.0.now ∷ [])
-lent_luma_arrays κs x s t p q a b = (cc, cc)
+pub lent_luma_arrays : (κs : Lfts 5) → Determined (lent-luma-arrays-reads.Post κs) (λ s. s.1.1.1.1.1.1.0.now ∷ [])
+lent_luma_arrays κs x s t p q a b = (one_answer p q (a.0 ∙ sym b.0), cc)
 
 -- ---- The calls as C has them
 

@@ -14,7 +14,9 @@ use Rattle.place.specs.Refusal.{padded_tests, block_tests, padded_block_refusal}
 use Rattle.place.proofs.Refused.{PaddedOk, padded_block_ok, split_zero}
 use Rattle.samples.specs.Tap.{mean}
 use Rattle.samples.proofs.Reach.{luma_six}
-use Rattle.margins.specs.declared.Geometry.{Geometry}
+use Rattle.std.specs.Prelude.{Ok}
+use Rattle.terms.specs.declared.plane.Geometry.{Geometry}
+use Rattle.terms.specs.declared.block.Block as asked
 use Rattle.luma.specs.Luma.{predicted_luma}
 use Rattle.luma.proofs.mc_luma.Reads as plain
 use Rattle.window.specs.Padded.{padded_luma, slices_refusal}
@@ -24,8 +26,8 @@ use Rattle.padded.proofs.mc_luma_padded_slices.Reads as slices
 use Rattle.padded.proofs.Only.{Block, Lent, out}
 use Rattle.lent.specs.Lent.{Predicted}
 use Rattle.planes.proofs.Laws.{clamped}
-use Rattle.hpel.specs.declared.HpelAt.{HpelAt}
-use Rattle.hpel.specs.declared.HpelPair.{HpelPair}
+use Rattle.hpel.specs.declared.Spot.{Spot}
+use Rattle.hpel.specs.declared.Pair.{Pair}
 use Rattle.hpel.specs.Reading.{contents, hpel_sample}
 use Rattle.hpel.proofs.Standard.{Serves, ref_served, qpel_served, block_served, hpel_standard}
 use Rattle.hpel.proofs.Views.{ref_done, qpel_done, ref_view, qpel_view}
@@ -39,12 +41,16 @@ use Rattle.hpel.proofs.hpel_qpel_refs.Reads as qpel
 use Rattle.promises.specs.Made.{Holds, Margins, Derived}
 
 module _ (x0 y0 bw bh : ℕ) (mvx mvy : ℤ) where
+  -- the block that is asked for
+  abbrev pub asked_for : asked.Block
+  asked_for = record { x = x0; y = y0; w = bw; h = bh; mv = record { x = mvx; y = mvy } }
+
   -- the block of the plain rule, drawn into a buffer
   abbrev pub Draws : (pic : List ℕ) (w ht : ℕ) (old new : List ℕ) → Type 0
   Draws pic w ht old new = new ≡ drawn old bw bh (predicted_luma pic w ht x0 y0 mvx mvy)
 
-  pub mc_luma_draws : (κs : Lfts 2) (pic : Bor (List ℕ)) (o : MutBor (List ℕ)) (w ht : ℕ) (s : _) → plain.Post κs (pic, (w, (ht, (x0, (y0, (bw, (bh, (mvx, (mvy, (o, tt)))))))))) 0 s
-      → Draws pic.now w ht o.now s.1.1.1.1.1.1.1.1.1.0.now
+  pub mc_luma_draws : (κs : Lfts 2) (pic : Bor (List ℕ)) (o : MutBor (List ℕ)) (w ht : ℕ) (s : _) → plain.Post κs (record { samples = pic; w = w; h = ht }, (asked_for, (o, tt))) (Ok tt) s
+      → Draws pic.now w ht o.now s.1.1.0.now
   mc_luma_draws κs pic o w ht s a = a.1
 
   -- a plane with margins
@@ -67,12 +73,12 @@ module _ (x0 y0 bw bh : ℕ) (mvx mvy : ℤ) where
   -- with its own scratch, with lent slices, and with a lent record
   module _ (pic : List ℕ) (g : Geometry) (buf : Bor (List ℕ)) (o : MutBor (List ℕ)) (m : Margins pic g.pw g.ph g.pad g.stride buf.now) where
     abbrev block : Block
-    block = (buf, (g, (x0, (y0, (bw, (bh, (mvx, (mvy, (o, tt)))))))))
+    block = (buf, (g, (asked_for, (o, tt))))
 
-    pub mc_luma_padded_draws : (κs : Lfts 2) (s : Block) → padded.Post κs block 0 s → Draws pic g.pw g.ph o.now (out s)
+    pub mc_luma_padded_draws : (κs : Lfts 2) (s : Block) → padded.Post κs block (Ok tt) s → Draws pic g.pw g.ph o.now (out s)
     mc_luma_padded_draws κs s a = margin_draws pic _ _ _ _ buf.now _ _ _ m (padded_block_ok 16 _ _ _ _ _ _ _ _ _ _ a.0).0 a.1
 
-    pub mc_luma_padded_slices_draws : (κs : Lfts 5) (tile ga gb : MutBor (List ℕ)) (s : Lent) → slices.Post κs (tile, (ga, (gb, block))) 0 s
+    pub mc_luma_padded_slices_draws : (κs : Lfts 5) (tile ga gb : MutBor (List ℕ)) (s : Lent) → slices.Post κs (tile, (ga, (gb, block))) (Ok tt) s
         → Draws pic g.pw g.ph o.now (out s.1.1.1)
     unfolding slices_refusal padded_block_refusal
     mc_luma_padded_slices_draws κs tile ga gb s a =
@@ -87,7 +93,7 @@ module _ (x0 y0 bw bh : ℕ) (mvx mvy : ℤ) where
   -- half-sample planes
   module _ (pic : List ℕ) (f h v c : Bor (List ℕ)) (w ht pad : ℕ) (d : Derived pic w ht pad f.now h.now v.now c.now) where
     abbrev lent : {Out : Type 0} → Out → Passed Out
-    lent o = (f, (h, (v, (c, (w, (ht, (pad, (x0, (y0, (bw, (bh, (mvx, (mvy, o)))))))))))))
+    lent o = (f, (h, (v, (c, (w, (ht, (pad, (asked_for, o))))))))
 
     derived_sample : Serves w ht pad x0 y0 bw bh mvx mvy → (x y : ℕ) → x < bw → y < bh
         → hpel_sample f.now h.now v.now c.now w pad x0 y0 mvx mvy x y ≡ predicted_luma pic w ht x0 y0 mvx mvy x y
@@ -95,7 +101,7 @@ module _ (x0 y0 bw bh : ℕ) (mvx mvy : ℤ) where
     derived_sample =
         hpel_standard pic w ht pad f.now h.now v.now c.now d.f_was d.h_was d.v_was d.c_was d.full d.across d.down d.centre x0 y0 bw bh mvx mvy
 
-    pub hpel_block_draws : (κs : Lfts 2) (o : MutBor (List ℕ)) (s : Written) → hpel.Post κs (lent (o, tt)) 0 s → Draws pic w ht o.now (calls.out s)
+    pub hpel_block_draws : (κs : Lfts 2) (o : MutBor (List ℕ)) (s : Written) → hpel.Post κs (lent (o, tt)) (Ok tt) s → Draws pic w ht o.now (calls.out s)
     hpel_block_draws κs o s a = a.1 ∙ drawn_ext o.now bw bh _ _ (derived_sample (block_served _ _ _ _ w ht pad x0 y0 bw bh mvx mvy _ a.0))
 
     -- the views, read with the stride of the lookup that did not refuse

@@ -12,6 +12,12 @@ use Rattle.place.specs.Picture.{sample_at, window}
 use Rattle.place.specs.Place.{luma_place}
 use Rattle.place.specs.Refusal.{lowest, plain_block_refusal}
 use Rattle.place.proofs.Refused.{plain_block_ok, padded_block_ok}
+use Rattle.std.specs.Prelude.{Ok, Err}
+use Rattle.terms.specs.declared.block.Block as asked
+use Rattle.terms.specs.declared.plane.Plane as given
+use Rattle.terms.specs.declared.refusal.Refusal.{Refusal}
+use Rattle.terms.specs.Refusal.{number_of}
+use Rattle.terms.proofs.Number.{refusal_is_not_done}
 use Rattle.samples.specs.Tap.{six_tap, clip, mean}
 use Rattle.samples.specs.Phase.{phases, phase_of, anchor, luma_sample}
 use Rattle.luma.specs.Luma.{predicted_luma}
@@ -57,19 +63,20 @@ no_fixed_grey fx fy P a b =
 
 -- a picture of the one sample 77, and an output of the one byte 0
 abbrev Passed : Type 0
-Passed = Bor (List ℕ) × (ℕ × (ℕ × (ℕ × (ℕ × (ℕ × (ℕ × (ℤ × (ℤ × (MutBor (List ℕ) × Unit {0})))))))))
+Passed = given.Plane × (asked.Block × (MutBor (List ℕ) × Unit {0}))
 
 abbrev one : (pic : Bor (List ℕ)) (out : MutBor (List ℕ)) → Passed
-one pic out = (pic, (1, (1, (0, (0, (1, (1, (pos 0, (pos 0, (out, tt))))))))))
+one pic out =
+    (record { samples = pic; w = 1; h = 1 }, (record { x = 0; y = 0; w = 1; h = 1; mv = record { x = pos 0; y = pos 0 } }, (out, tt)))
 
 module _ (κs : Lfts 2) (pic : Bor (List ℕ)) (out : MutBor (List ℕ)) (a : pic.now ≡ 77 ∷ []) (b : out.now ≡ 0 ∷ []) (s : Passed) where
-  pub must_serve : (n : ℕ) → mc-luma.Post κs (one pic out) (suc n) s → ⊥
+  pub must_serve : (e : Refusal) → mc-luma.Post κs (one pic out) (Err e) s → ⊥
   unfolding plain_block_refusal lowest
-  must_serve n c =
-      let e : suc n ≡ 0 = c.0 ∙ ap (λ (l : List ℕ). plain_block_refusal 16 (length l) 1 1 0 0 1 1 (length out.now)) a ∙ ap (λ (l : List ℕ). plain_block_refusal 16 1 1 1 0 0 1 1 (length l)) b in
-      omega (arith, e)
+  must_serve r c =
+      let e : number_of r ≡ 0 = c.0 ∙ ap (λ (l : List ℕ). plain_block_refusal 16 (length l) 1 1 0 0 1 1 (length out.now)) a ∙ ap (λ (l : List ℕ). plain_block_refusal 16 1 1 1 0 0 1 1 (length l)) b in
+      refusal_is_not_done r e
 
-  pub must_write : mc-luma.Post κs (one pic out) 0 s → s.1.1.1.1.1.1.1.1.1.0.now ≡ 77 ∷ []
+  pub must_write : mc-luma.Post κs (one pic out) (Ok tt) s → s.1.1.0.now ≡ 77 ∷ []
   unfolding drawn block tab by_rows predicted_luma luma_sample phases anchor mean window sample_at sample luma_place
   must_write c =
       c.1 ∙ ap (λ (l : List ℕ). drawn l 1 1 (predicted_luma pic.now 1 1 0 0 (pos 0) (pos 0))) b
@@ -77,18 +84,18 @@ module _ (κs : Lfts 2) (pic : Bor (List ℕ)) (out : MutBor (List ℕ)) (a : pi
 
 -- ---- one that fills in a missing sample: where a call answers 0, each plane that it reads from has every sample
 
-pub mc_luma_has_all : (κs : Lfts 2) (x s : Passed) → mc-luma.Post κs x 0 s → x.1.0 * x.1.1.0 ≤ length x.0.now
+pub mc_luma_has_all : (κs : Lfts 2) (x s : Passed) → mc-luma.Post κs x (Ok tt) s → let p = x.0 in p.w * p.h ≤ length p.samples.now
 mc_luma_has_all κs x s c = (plain_block_ok 16 _ _ _ _ _ _ _ _ c.0).0.src
 
-pub mc_chroma_has_all : (κs : Lfts 2) (x s : Passed) → mc-chroma.Post κs x 0 s → x.1.0 * x.1.1.0 ≤ length x.0.now
+pub mc_chroma_has_all : (κs : Lfts 2) (x s : Passed) → mc-chroma.Post κs x (Ok tt) s → let p = x.0 in p.w * p.h ≤ length p.samples.now
 mc_chroma_has_all κs x s c = (plain_block_ok 8 _ _ _ _ _ _ _ _ c.0).0.src
 
-pub mc_luma_padded_has_all : (κs : Lfts 2) (x s : Block) → mc-luma-padded.Post κs x 0 s → let g = x.1.0 in g.stride * (g.ph + 2 * g.pad) ≤ length x.0.now
+pub mc_luma_padded_has_all : (κs : Lfts 2) (x s : Block) → mc-luma-padded.Post κs x (Ok tt) s → let g = x.1.0 in g.stride * (g.ph + 2 * g.pad) ≤ length x.0.now
 mc_luma_padded_has_all κs x s c = (padded_block_ok 16 _ _ _ _ _ _ _ _ _ _ c.0).0.src
 
-pub mc_chroma_padded_has_all : (κs : Lfts 2) (x s : Block) → mc-chroma-padded.Post κs x 0 s → let g = x.1.0 in g.stride * (g.ph + 2 * g.pad) ≤ length x.0.now
+pub mc_chroma_padded_has_all : (κs : Lfts 2) (x s : Block) → mc-chroma-padded.Post κs x (Ok tt) s → let g = x.1.0 in g.stride * (g.ph + 2 * g.pad) ≤ length x.0.now
 mc_chroma_padded_has_all κs x s c = (padded_block_ok 8 _ _ _ _ _ _ _ _ _ _ c.0).0.src
 
-pub mc_chroma_padded_pair_has_all : (κs : Lfts 4) (x s : Two) → mc-chroma-padded-pair.Post κs x 0 s
+pub mc_chroma_padded_pair_has_all : (κs : Lfts 4) (x s : Two) → mc-chroma-padded-pair.Post κs x (Ok tt) s
     → let g = x.1.1.0 in g.stride * (g.ph + 2 * g.pad) ≤ min (length x.0.now) (length x.1.0.now)
 mc_chroma_padded_pair_has_all κs x s c = (padded_block_ok 8 _ _ _ _ _ _ _ _ _ _ c.0).0.src

@@ -23,12 +23,12 @@ use Rattle.promises.specs.Bound.{Within, NearMean}
 use Rattle.promises.specs.Made.{Derived}
 use Rattle.promises.proofs.Bounds.{within, near_mean}
 use Rattle.promises.proofs.BoundedCalls.{plain_window}
-use Rattle.promises.proofs.Routes.{hpel_ref_reads, hpel_qpel_refs_reads}
+use Rattle.promises.proofs.Routes.{asked_for, hpel_ref_reads, hpel_qpel_refs_reads}
 use Rattle.promises.proofs.Agree.{Answered, drew}
 
 module _ (pic : Bor (List ℕ)) (w ht x0 y0 bw bh : ℕ) (mvx mvy : ℤ) where
   abbrev lent : (pad : ℕ) (f h v c : Bor (List ℕ)) → Read
-  lent pad f h v c = (f, (h, (v, (c, (w, (ht, (pad, (x0, (y0, (bw, (bh, (mvx, (mvy, tt)))))))))))))
+  lent pad f h v c = (f, (h, (v, (c, (w, (ht, (pad, (asked_for x0 y0 bw bh mvx mvy, tt))))))))
 
   -- A VIEW, on planes derived from the picture, of a block whose lookup did not refuse, gives these samples by column and row:
   -- the tail, read with the lookup's stride, and the mean of two tails
