@@ -88,6 +88,12 @@ fn chosen(a: Resolved, b: Resolved, c: Resolved, cur_ref: i32) -> Mv
     }
 }
 
+fn alone(p: bool, q: bool, s: bool) -> bool
+    ensures { result ≡ (p && (not q && not s)) }
+{
+    matches!((p, q, s), (true, false, false))
+}
+
 #[derive(Clone, Copy, Debug, PartialEq, Eq)]
 pub struct Neighbors {
     pub a: MvNeighbor,
@@ -108,10 +114,7 @@ impl Neighbors {
         ensures { result ≡ predicted self.a self.b self.c cur_ref }
     {
         let a = self.a.resolved();
-        if matches!(
-            (self.a.available, self.b.available, self.c.available),
-            (true, false, false)
-        ) {
+        if alone(self.a.available, self.b.available, self.c.available) {
             return chosen(a, a, a, cur_ref);
         }
         chosen(a, self.b.resolved(), self.c.resolved(), cur_ref)
