@@ -1,11 +1,15 @@
 -- Partitions and their vectors, document 01, "Vectors" (Rec. ITU-T H.264, clause 8.4.1.3), over the integers.
 -- Assumes nothing.
-use Rattle.std.specs.Prelude.{ℕ, Bool, ◌&&◌, [], ◌∷◌, ℤ, ◌==◌}
+use Rattle.std.specs.Prelude.{ℕ, Bool, ◌&&◌, [], ◌∷◌, ℤ, ◌==◌, Option, Some, None}
 use Rattle.signed.specs.Order.{eq_z}
 use Rattle.vectors.specs.declared.MvNeighbor.{MvNeighbor}
 use Rattle.vectors.specs.declared.MvAnswer.{MvAnswer}
 use Rattle.vectors.specs.declared.Rect.{Rect}
 use Rattle.vectors.specs.declared.Partitions.{Partitions}
+use Rattle.vectors.specs.declared.Mode.{Mode}
+use Rattle.vectors.specs.declared.Mode.TheVariants.{Whole, Rows, Columns, Quarters}
+use Rattle.vectors.specs.declared.Side.{Side}
+use Rattle.vectors.specs.declared.Side.TheVariants.{A, B, C}
 use Rattle.vectors.specs.Predict.{pick, bad_reference, no_reference, predict_answer}
 
 -- which neighbour a part of a mode takes directly: 0 none, 1 A, 2 B, 3 C
@@ -13,6 +17,28 @@ unfoldable pub side_of : ℕ → ℕ → ℕ
 side_of mode part =
     pick (mode == 1) (pick (part == 0) 2 (pick (part == 1) 1 0))
     (pick (mode == 2) (pick (part == 0) 1 (pick (part == 1) 3 0)) 0)
+
+-- a mode of the code, by its number; any other number is the whole
+abbrev pub mode_number : Mode → ℕ
+mode_number Whole = 0
+mode_number Rows = 1
+mode_number Columns = 2
+mode_number Quarters = 3
+
+abbrev pub mode_of : ℕ → Mode
+mode_of n = pick (n == 1) Rows (pick (n == 2) Columns (pick (n == 3) Quarters Whole))
+
+-- a side of the code, by its number
+abbrev pub side_number : Option Side → ℕ
+side_number None = 0
+side_number (Some A) = 1
+side_number (Some B) = 2
+side_number (Some C) = 3
+
+abbrev pub at_side : Side → MvNeighbor → MvNeighbor → MvNeighbor → MvNeighbor
+at_side A a b c = a
+at_side B a b c = b
+at_side C a b c = c
 
 -- available with the current reference
 unfoldable pub served : MvNeighbor → ℤ → Bool

@@ -1,9 +1,11 @@
 -- Vector prediction, document 01, "Vectors" (Rec. ITU-T H.264, clause 8.4.1.3), over the integers.
 -- Assumes nothing.
-use Rattle.std.specs.Prelude.{Bool, true, false, not, ◌&&◌, ◌||◌, ℤ, pos, negsuc, int_lt}
+use Rattle.std.specs.Prelude.{Bool, true, false, not, ◌&&◌, ◌||◌, ℤ, pos, negsuc, int_lt, Result, Ok, Err}
 use Rattle.signed.specs.Order.{eq_z}
 use Rattle.std.specs.Int.Signed.{le_z}
-use Rattle.vectors.specs.declared.Mv.{Mv}
+use Rattle.terms.specs.declared.block.Mv.{Mv}
+use Rattle.terms.specs.declared.refusal.Refusal.{Refusal}
+use Rattle.terms.specs.Refusal.{number_of}
 use Rattle.vectors.specs.declared.MvNeighbor.{MvNeighbor}
 use Rattle.vectors.specs.declared.Resolved.{Resolved}
 use Rattle.vectors.specs.declared.MvAnswer.{MvAnswer}
@@ -56,3 +58,8 @@ no_reference = record { refusal = 7; mv = zero_mv }
 
 unfoldable pub predict_answer : MvNeighbor → MvNeighbor → MvNeighbor → ℤ → MvAnswer
 predict_answer a b c cur = pick (bad_reference cur) no_reference (record { refusal = 0; mv = predicted a b c cur })
+
+-- an answer as C has it: 0 and the vector, or the refusal's number and (0,0)
+abbrev pub mv_answer : Result Mv Refusal → MvAnswer
+mv_answer (Ok m) = record { refusal = 0; mv = m }
+mv_answer (Err e) = record { refusal = number_of e; mv = zero_mv }

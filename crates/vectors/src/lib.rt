@@ -3,30 +3,24 @@
 
 ghost use Rattle.std.specs.Prelude.{◌≡◌, not, ◌&&◌};
 ghost use Rattle.vectors.specs.Median.{median};
-ghost use Rattle.vectors.specs.Predict.{resolved, median_mv, chosen_mv, predicted, bad_reference, predict_answer};
-ghost use Rattle.vectors.specs.Partition.{side_of, served, direct_answer, partition_answer, partitions_of};
+ghost use Rattle.vectors.specs.Predict.{resolved, median_mv, chosen_mv, predicted, bad_reference, predict_answer, mv_answer};
+ghost use Rattle.vectors.specs.Partition.{side_of, served, partition_answer, partitions_of, mode_of, mode_number, side_number, at_side};
+
+pub use terms::block::Mv;
+use terms::refusal::Refusal;
 
 // The wrapping sum of the three less the smallest and the largest: the sum may pass the ends of 32 bits and comes back.
 pub fn median3(a: i32, b: i32, c: i32) -> i32
     ensures { result ≡ median a b c }
 {
-    let lo = signed::min_i32(a, signed::min_i32(b, c));
-    let hi = signed::max_i32(a, signed::max_i32(b, c));
-    let ab = std::num::wrapping_add_u32(signed::to_bits(a), signed::to_bits(b));
-    let sum = std::num::wrapping_add_u32(ab, signed::to_bits(c));
-    let less = std::num::wrapping_sub_u32(sum, signed::to_bits(lo));
-    signed::from_bits(std::num::wrapping_sub_u32(less, signed::to_bits(hi)))
+    let lo = a.min(b.min(c));
+    let hi = a.max(b.max(c));
+    let sum = a.wrapping_add(b).wrapping_add(c);
+    sum.wrapping_sub(lo).wrapping_sub(hi)
 }
 
 #[repr(C)]
-#[derive(Clone, Copy)]
-pub struct Mv {
-    pub x: i32,
-    pub y: i32,
-}
-
-#[repr(C)]
-#[derive(Clone, Copy)]
+#[derive(Clone, Copy, Debug, PartialEq, Eq)]
 pub struct MvNeighbor {
     pub available: bool,
     pub mv: Mv,
@@ -34,44 +28,37 @@ pub struct MvNeighbor {
 }
 
 // What a neighbour counts as.
-#[derive(Clone, Copy)]
+#[derive(Clone, Copy, Debug, PartialEq, Eq)]
 pub struct Resolved {
     pub mv: Mv,
     pub ref_idx: i32,
 }
 
-#[repr(C)]
-#[derive(Clone, Copy)]
-pub struct MvAnswer {
-    pub refusal: u32,
-    pub mv: Mv,
-}
-
 const ZERO: Mv = Mv { x: 0, y: 0 };
 
-// The current reference is outside 0..31.
-pub const BAD_REFERENCE: u32 = 7;
-
-const NO_REFERENCE: MvAnswer = MvAnswer {
-    refusal: BAD_REFERENCE,
-    mv: ZERO,
-};
-
-// Unavailable, or with a negative reference: vector (0,0), reference -1.
-#[tactic(auto, unfolding(crate::specs::Predict::resolved))]
-fn resolve(n: MvNeighbor) -> Resolved
-    ensures { result ≡ resolved n }
-{
-    let k = n.ref_idx;
-    let m = n.mv;
-    if n.available {
-        if 0 <= k {
-            return Resolved { mv: m, ref_idx: k };
+impl MvNeighbor {
+    // Unavailable, or with a negative reference: vector (0,0), reference -1.
+    #[tactic(auto, unfolding(crate::specs::Predict::resolved))]
+    fn resolved(self) -> Resolved
+        ensures { result ≡ resolved self }
+    {
+        if self.available && 0 <= self.ref_idx {
+            return Resolved {
+                mv: self.mv,
+                ref_idx: self.ref_idx,
+            };
+        }
+        Resolved {
+            mv: ZERO,
+            ref_idx: -1,
         }
     }
-    Resolved {
-        mv: ZERO,
-        ref_idx: -1,
+
+    #[tactic(auto, unfolding(crate::specs::Partition::served))]
+    fn serves(self, cur_ref: i32) -> bool
+        ensures { result ≡ served self cur_ref }
+    {
+        self.available && self.ref_idx == cur_ref
     }
 }
 
@@ -93,140 +80,158 @@ fn chosen(a: Resolved, b: Resolved, c: Resolved, cur_ref: i32) -> Mv
     let p = a.ref_idx == cur_ref;
     let q = b.ref_idx == cur_ref;
     let s = c.ref_idx == cur_ref;
-    let x = a.mv;
-    let y = b.mv;
-    let z = c.mv;
-    if p {
-        if q {
-            return median_mv(x, y, z);
-        }
-        if s {
-            return median_mv(x, y, z);
-        }
-        return x;
+    match (p, q, s) {
+        (true, false, false) => a.mv,
+        (false, true, false) => b.mv,
+        (false, false, true) => c.mv,
+        _ => median_mv(a.mv, b.mv, c.mv),
     }
-    if q {
-        if s {
-            return median_mv(x, y, z);
-        }
-        return y;
-    }
-    if s {
-        return z;
-    }
-    median_mv(x, y, z)
 }
 
 fn alone(p: bool, q: bool, s: bool) -> bool
     ensures { result ≡ (p && (not q && not s)) }
 {
-    p && (!q && !s)
+    matches!((p, q, s), (true, false, false))
 }
 
-#[tactic(auto, unfolding(crate::specs::Predict::predicted))]
-fn rule(a: MvNeighbor, b: MvNeighbor, c: MvNeighbor, cur_ref: i32) -> Mv
-    ensures { result ≡ predicted a b c cur_ref }
-{
-    let x = resolve(a);
-    if alone(a.available, b.available, c.available) {
-        return chosen(x, x, x, cur_ref);
+#[derive(Clone, Copy, Debug, PartialEq, Eq)]
+pub struct Neighbors {
+    pub a: MvNeighbor,
+    pub b: MvNeighbor,
+    pub c: MvNeighbor,
+}
+
+#[derive(Clone, Copy, Debug, PartialEq, Eq)]
+enum Side {
+    A,
+    B,
+    C,
+}
+
+impl Neighbors {
+    #[tactic(auto, unfolding(crate::specs::Predict::predicted))]
+    fn predicted(self, cur_ref: i32) -> Mv
+        ensures { result ≡ predicted self.a self.b self.c cur_ref }
+    {
+        let a = self.a.resolved();
+        if alone(self.a.available, self.b.available, self.c.available) {
+            return chosen(a, a, a, cur_ref);
+        }
+        chosen(a, self.b.resolved(), self.c.resolved(), cur_ref)
     }
-    chosen(x, resolve(b), resolve(c), cur_ref)
+
+    fn at(self, side: Side) -> MvNeighbor
+        ensures { result ≡ at_side side self.a self.b self.c }
+    {
+        match side {
+            Side::A => self.a,
+            Side::B => self.b,
+            Side::C => self.c,
+        }
+    }
 }
 
+// As C has an answer: the refusal's number, or 0 and the vector.
+#[repr(C)]
+#[derive(Clone, Copy, Debug, PartialEq, Eq)]
+pub struct MvAnswer {
+    pub refusal: u32,
+    pub mv: Mv,
+}
+
+impl From<Result<Mv, Refusal>> for MvAnswer {
+    ghost from_gives = { λ r m. m ≡ mv_answer r };
+
+    fn from(answer: Result<Mv, Refusal>) -> MvAnswer {
+        match answer {
+            Ok(mv) => MvAnswer { refusal: 0, mv },
+            Err(refusal) => MvAnswer {
+                refusal: refusal.number(),
+                mv: ZERO,
+            },
+        }
+    }
+}
+
+#[tactic(auto, unfolding(crate::specs::Predict::bad_reference))]
 fn bad_reference(cur_ref: i32) -> bool
     ensures { result ≡ bad_reference cur_ref }
 {
-    (cur_ref < 0) | (31 < cur_ref)
+    !(0..=31).contains(&cur_ref)
 }
 
 #[tactic(auto, unfolding(crate::specs::Predict::predict_answer))]
-pub fn predict_mv(a: MvNeighbor, b: MvNeighbor, c: MvNeighbor, cur_ref: i32) -> MvAnswer
-    ensures { result ≡ predict_answer a b c cur_ref }
+pub fn predict_mv(near: Neighbors, cur_ref: i32) -> Result<Mv, Refusal>
+    ensures { mv_answer result ≡ predict_answer near.a near.b near.c cur_ref }
 {
     if bad_reference(cur_ref) {
-        return NO_REFERENCE;
+        return Err(Refusal::BadReference);
     }
-    let m = rule(a, b, c, cur_ref);
-    MvAnswer { refusal: 0, mv: m }
+    Ok(near.predicted(cur_ref))
 }
 
-// Which neighbour a partition takes directly: 0 none, 1 A, 2 B, 3 C.
-#[tactic(auto, unfolding(crate::specs::Partition::side_of))]
-fn side(mode: u8, part: usize) -> u8
-    ensures { result ≡ side_of mode part }
-{
-    if mode == 1 {
-        if part == 0 {
-            return 2;
-        }
-        if part == 1 {
-            return 1;
-        }
-        return 0;
-    }
-    if mode == 2 {
-        if part == 0 {
-            return 1;
-        }
-        if part == 1 {
-            return 3;
-        }
-        return 0;
-    }
-    0
+// How a macroblock is divided.
+#[derive(Clone, Copy, Debug, PartialEq, Eq)]
+enum Mode {
+    Whole,
+    Rows,
+    Columns,
+    Quarters,
 }
 
-fn serves(n: MvNeighbor, cur_ref: i32) -> bool
-    ensures { result ≡ served n cur_ref }
-{
-    if n.available {
-        n.ref_idx == cur_ref
-    } else {
-        false
+// Any other number is the whole.
+impl From<u8> for Mode {
+    ghost from_gives = { λ n m. m ≡ mode_of n };
+
+    fn from(n: u8) -> Mode {
+        match n {
+            1 => Mode::Rows,
+            2 => Mode::Columns,
+            3 => Mode::Quarters,
+            _ => Mode::Whole,
+        }
     }
 }
 
-#[tactic(auto, unfolding(crate::specs::Partition::direct_answer))]
-fn direct(n: MvNeighbor, a: MvNeighbor, b: MvNeighbor, c: MvNeighbor, cur_ref: i32) -> MvAnswer
-    ensures { result ≡ direct_answer n a b c cur_ref }
-{
-    if serves(n, cur_ref) {
-        let m = n.mv;
-        return MvAnswer { refusal: 0, mv: m };
+impl Mode {
+    // Which neighbour a part takes directly.
+    #[tactic(auto, unfolding(crate::specs::Partition::side_of))]
+    fn side(self, part: usize) -> Option<Side>
+        ensures { side_number result ≡ side_of (mode_number self) part }
+    {
+        match (self, part) {
+            (Mode::Rows, 0) => Some(Side::B),
+            (Mode::Rows, 1) => Some(Side::A),
+            (Mode::Columns, 0) => Some(Side::A),
+            (Mode::Columns, 1) => Some(Side::C),
+            _ => None,
+        }
     }
-    predict_mv(a, b, c, cur_ref)
 }
 
 #[tactic(auto, unfolding(crate::specs::Partition::partition_answer))]
 pub fn predict_partition_mv(
     mode: u8,
     part: usize,
-    a: MvNeighbor,
-    b: MvNeighbor,
-    c: MvNeighbor,
+    near: Neighbors,
     cur_ref: i32,
-) -> MvAnswer
-    ensures { result ≡ partition_answer mode part a b c cur_ref }
+) -> Result<Mv, Refusal>
+    ensures { mv_answer result ≡ partition_answer mode part near.a near.b near.c cur_ref }
 {
     if bad_reference(cur_ref) {
-        return NO_REFERENCE;
+        return Err(Refusal::BadReference);
     }
-    let k = side(mode, part);
-    if k == 1 {
-        return direct(a, a, b, c, cur_ref);
+    if let Some(side) = Mode::from(mode).side(part) {
+        let n = near.at(side);
+        if n.serves(cur_ref) {
+            return Ok(n.mv);
+        }
     }
-    if k == 2 {
-        return direct(b, a, b, c, cur_ref);
-    }
-    if k == 3 {
-        return direct(c, a, b, c, cur_ref);
-    }
-    predict_mv(a, b, c, cur_ref)
+    Ok(near.predicted(cur_ref))
 }
 
 #[repr(C)]
-#[derive(Clone, Copy)]
+#[derive(Clone, Copy, Debug, PartialEq, Eq)]
 pub struct Rect {
     pub x: usize,
     pub y: usize,
@@ -235,7 +240,7 @@ pub struct Rect {
 }
 
 #[repr(C)]
-#[derive(Clone, Copy)]
+#[derive(Clone, Copy, Debug, PartialEq, Eq)]
 pub struct Partitions {
     pub count: usize,
     pub parts: [Rect; 4],
@@ -322,29 +327,33 @@ const QUARTERS: [Rect; 4] = [
     },
 ];
 
+impl Mode {
+    fn partitions(self) -> Partitions
+        ensures { result ≡ partitions_of (mode_number self) }
+    {
+        match self {
+            Mode::Whole => Partitions {
+                count: 1,
+                parts: WHOLE,
+            },
+            Mode::Rows => Partitions {
+                count: 2,
+                parts: ROWS,
+            },
+            Mode::Columns => Partitions {
+                count: 2,
+                parts: COLUMNS,
+            },
+            Mode::Quarters => Partitions {
+                count: 4,
+                parts: QUARTERS,
+            },
+        }
+    }
+}
+
 pub fn inter_partitions(mode: u8) -> Partitions
     ensures { result ≡ partitions_of mode }
 {
-    if mode == 1 {
-        return Partitions {
-            count: 2,
-            parts: ROWS,
-        };
-    }
-    if mode == 2 {
-        return Partitions {
-            count: 2,
-            parts: COLUMNS,
-        };
-    }
-    if mode == 3 {
-        return Partitions {
-            count: 4,
-            parts: QUARTERS,
-        };
-    }
-    Partitions {
-        count: 1,
-        parts: WHOLE,
-    }
+    Mode::from(mode).partitions()
 }
