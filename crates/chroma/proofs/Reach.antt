@@ -7,6 +7,12 @@ use lib.IntN.{ℤ, pos, ◌+ℤ◌}
 use lib.ListN.{length}
 use denote.Ref.{Bor, MutBor}
 use contract.Lifetimes.{Lfts}
+use Rattle.std.specs.Prelude.{Result}
+use Rattle.terms.specs.declared.block.Block.{Block}
+use Rattle.terms.specs.declared.plane.Plane.{Plane}
+use Rattle.terms.specs.declared.refusal.Refusal.{Refusal}
+use Rattle.terms.specs.Refusal.{answered}
+use Rattle.terms.proofs.Number.{one_answer}
 use Rattle.place.specs.Place.{floor_z, chroma_place, phase}
 use Rattle.place.specs.Picture.{sample_at, corner}
 use Rattle.place.specs.Refusal.{plain_block_refusal}
@@ -29,18 +35,20 @@ chroma_reach pic pic' w h x0 y0 bw bh mvx mvy e c r a b =
     part_agrees (λ x y. sample_at pic w h x y) (λ x y. sample_at pic' w h x y) (pos x0 +ℤ floor_z mvx 8) (pos y0 +ℤ floor_z mvy 8) (bw + 1) (bh + 1) e c r i j (omega arith) (omega arith))
 
 -- OF THE CALL: the same arguments but for the picture, of one length: one answer, and the same bytes where the windows agree
-abbrev Rest : Type 0
-Rest = ℕ × (ℕ × (ℕ × (ℕ × (ℕ × (ℕ × (ℤ × (ℤ × (MutBor (List ℕ) × Unit {0}))))))))
+abbrev Drawn : Type 0
+Drawn = Plane × (Block × (MutBor (List ℕ) × Unit {0}))
 
-module _ (κs : Lfts 2) (pic pic' : Bor (List ℕ)) (w h x0 y0 bw bh : ℕ) (mvx mvy : ℤ) (out : MutBor (List ℕ)) (same : length pic.now ≡ length pic'.now) where
-  abbrev rest : Rest
-  rest = (w, (h, (x0, (y0, (bw, (bh, (mvx, (mvy, (out, tt)))))))))
+module _ (κs : Lfts 2) (pic pic' : Bor (List ℕ)) (w h : ℕ) (block : Block) (out : MutBor (List ℕ)) (same : length pic.now ≡ length pic'.now) where
+  abbrev passed : Bor (List ℕ) → Drawn
+  passed samples = (record { samples = samples; w = w; h = h }, (block, (out, tt)))
 
-  pub mc_chroma_refusal : (p q : ℕ) (s t : Bor (List ℕ) × Rest) → reads.Post κs (pic, rest) p s → reads.Post κs (pic', rest) q t → p ≡ q
-  mc_chroma_refusal p q s t a b = a.0 ∙ ap (λ (n : ℕ). plain_block_refusal 8 n w h x0 y0 bw bh (length out.now)) same ∙ sym b.0
+  pub mc_chroma_refusal : (p q : Result (Unit {0}) Refusal) (s t : Drawn) → reads.Post κs (passed pic) p s → reads.Post κs (passed pic') q t → p ≡ q
+  mc_chroma_refusal p q s t a b =
+      one_answer p q (a.0 ∙ ap (λ (n : ℕ). plain_block_refusal 8 n w h block.x block.y block.w block.h (length out.now)) same ∙ sym b.0)
 
-  pub mc_chroma_reach : Agree pic.now pic'.now w h x0 y0 bw bh mvx mvy
-      → (p q : ℕ) (s t : Bor (List ℕ) × Rest) → reads.Post κs (pic, rest) p s → reads.Post κs (pic', rest) q t
-      → s.1.1.1.1.1.1.1.1.1.0.now ≡ t.1.1.1.1.1.1.1.1.1.0.now
+  pub mc_chroma_reach : Agree pic.now pic'.now w h block.x block.y block.w block.h block.mv.x block.mv.y
+      → (p q : Result (Unit {0}) Refusal) (s t : Drawn) → reads.Post κs (passed pic) p s → reads.Post κs (passed pic') q t
+      → s.1.1.0.now ≡ t.1.1.0.now
   mc_chroma_reach e p q s t a b =
-      written out.now bw bh _ _ (mc_chroma_refusal p q s t a b) (chroma_reach pic.now pic'.now w h x0 y0 bw bh mvx mvy e) a.1 b.1
+      written out.now block.w block.h _ _ (ap answered (mc_chroma_refusal p q s t a b))
+      (chroma_reach pic.now pic'.now w h block.x block.y block.w block.h block.mv.x block.mv.y e) a.1 b.1

@@ -1,64 +1,55 @@
 // Chroma prediction from a plain picture.
 #![tactic(auto)]
 
-ghost use Rattle.std.specs.Prelude.{◌≡◌, length};
+ghost use Rattle.std.specs.Prelude.{◌≡◌, ◌*◌, ◌≤◌, length};
+ghost use Rattle.terms.specs.Refusal.{answered};
 ghost use Rattle.grid.specs.Block.{drawn};
 ghost use Rattle.place.specs.Refusal.{plain_block_refusal};
 ghost use Rattle.place.specs.Outcome.{after};
 ghost use Rattle.chroma.specs.Chroma.{predicted_chroma};
 
 use place::{coords, limits};
+use terms::block::Block;
+use terms::plane::Plane;
+use terms::refusal::Refusal;
 
-// The bw by bh block at (x0, y0), moved by the vector in eighth samples, into out by rows.
-pub fn mc_chroma(
-    reference: &[u8],
-    cw: usize,
-    ch: usize,
-    x0: usize,
-    y0: usize,
-    bw: usize,
-    bh: usize,
-    mvx: i32,
-    mvy: i32,
-    out: &mut [u8],
-) -> u32
-    ensures { (result ≡ plain_block_refusal 8 (length reference.now) cw ch x0 y0 bw bh (length out.old))
-        × (out.new ≡ after result out.old (drawn out.old bw bh (predicted_chroma reference.now cw ch x0 y0 mvx mvy))) }
+// A block of which nothing is refused.
+fn predict(plane: Plane, block: Block, out: &mut [u8])
+    requires { 0 ≡ plain_block_refusal 8 (length plane.samples.now) plane.w plane.h block.x block.y block.w block.h (length out.old) }
+    ensures { out.new ≡ drawn out.old block.w block.h (predicted_chroma plane.entry.samples.now plane.entry.w plane.entry.h block.x block.y block.mv.x block.mv.y) }
 {
-    let no = limits::check_plain_block(
-        limits::CHROMA,
-        reference.len(),
-        cw,
-        ch,
-        x0,
-        y0,
-        bw,
-        bh,
-        out.len(),
-    );
-    if no != limits::DONE {
-        return no;
-    }
-    let x = coords::chroma_at(x0, mvx);
-    let y = coords::chroma_at(y0, mvy);
-    let fx = coords::chroma_phase(mvx);
-    let fy = coords::chroma_phase(mvy);
+    let pic = plane.samples;
+    let w = plane.w;
+    let h = plane.h;
+    let x = coords::chroma_at(block.x, block.mv.x);
+    let y = coords::chroma_at(block.y, block.mv.y);
+    let fx = coords::chroma_phase(block.mv.x);
+    let fy = coords::chroma_phase(block.mv.y);
     if fx + fy == 0 {
         route::predict_full(
-            reference,
+            pic,
             0,
-            cw,
-            cw,
-            ch,
+            w,
+            w,
+            h,
             x,
             y,
             coords::CHROMA_BASE,
-            bw,
-            bh,
+            block.w,
+            block.h,
             out,
         );
-        return limits::DONE;
+        return;
     }
-    route::predict_chroma(reference, 0, cw, cw, ch, x, y, fx, fy, bw, bh, out);
-    limits::DONE
+    route::predict_chroma(pic, 0, w, w, h, x, y, fx, fy, block.w, block.h, out);
+}
+
+// The block, moved by its vector in eighth samples, into out by rows.
+pub fn mc_chroma(plane: Plane, block: Block, out: &mut [u8]) -> Result<(), Refusal>
+    ensures { (answered result ≡ plain_block_refusal 8 (length plane.entry.samples.now) plane.entry.w plane.entry.h block.x block.y block.w block.h (length out.old))
+        × (out.new ≡ after (answered result) out.old (drawn out.old block.w block.h (predicted_chroma plane.entry.samples.now plane.entry.w plane.entry.h block.x block.y block.mv.x block.mv.y))) }
+{
+    limits::check_plain_block(limits::CHROMA, plane, block, out.len())?;
+    predict(plane, block, out);
+    Ok(())
 }

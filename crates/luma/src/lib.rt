@@ -1,7 +1,8 @@
 // Luma prediction from a plain picture, and the average of two rows.
 #![tactic(auto)]
 
-ghost use Rattle.std.specs.Prelude.{◌≡◌, length};
+ghost use Rattle.std.specs.Prelude.{◌≡◌, ◌*◌, ◌≤◌, length};
+ghost use Rattle.terms.specs.Refusal.{answered};
 ghost use Rattle.grid.specs.Block.{drawn};
 ghost use Rattle.place.specs.Refusal.{plain_block_refusal};
 ghost use Rattle.place.specs.Outcome.{after};
@@ -9,75 +10,65 @@ ghost use Rattle.luma.specs.Luma.{predicted_luma};
 ghost use Rattle.luma.specs.Average.{row_refusal, row_mean};
 
 use place::{coords, limits};
+use terms::block::Block;
+use terms::plane::Plane;
+use terms::refusal::Refusal;
 
-// The bw by bh block at (x0, y0), moved by the vector in quarter samples, into out by rows.
-pub fn mc_luma(
-    reference: &[u8],
-    cw: usize,
-    ch: usize,
-    x0: usize,
-    y0: usize,
-    bw: usize,
-    bh: usize,
-    mvx: i32,
-    mvy: i32,
-    out: &mut [u8],
-) -> u32
-    ensures { (result ≡ plain_block_refusal 16 (length reference.now) cw ch x0 y0 bw bh (length out.old))
-        × (out.new ≡ after result out.old (drawn out.old bw bh (predicted_luma reference.now cw ch x0 y0 mvx mvy))) }
+// A block of which nothing is refused.
+fn predict(plane: Plane, block: Block, out: &mut [u8])
+    requires { 0 ≡ plain_block_refusal 16 (length plane.samples.now) plane.w plane.h block.x block.y block.w block.h (length out.old) }
+    ensures { out.new ≡ drawn out.old block.w block.h (predicted_luma plane.entry.samples.now plane.entry.w plane.entry.h block.x block.y block.mv.x block.mv.y) }
 {
-    let no = limits::check_plain_block(
-        limits::LUMA,
-        reference.len(),
-        cw,
-        ch,
-        x0,
-        y0,
-        bw,
-        bh,
-        out.len(),
-    );
-    if no != limits::DONE {
-        return no;
-    }
-    let x = coords::luma_at(x0, mvx);
-    let y = coords::luma_at(y0, mvy);
-    let fx = coords::luma_phase(mvx);
-    let fy = coords::luma_phase(mvy);
+    let pic = plane.samples;
+    let w = plane.w;
+    let h = plane.h;
+    let x = coords::luma_at(block.x, block.mv.x);
+    let y = coords::luma_at(block.y, block.mv.y);
+    let fx = coords::luma_phase(block.mv.x);
+    let fy = coords::luma_phase(block.mv.y);
     if fx + fy == 0 {
         route::predict_full(
-            reference,
+            pic,
             0,
-            cw,
-            cw,
-            ch,
+            w,
+            w,
+            h,
             x,
             y,
             coords::LUMA_BASE,
-            bw,
-            bh,
+            block.w,
+            block.h,
             out,
         );
-        return limits::DONE;
+        return;
     }
-    route::predict_luma(reference, 0, cw, cw, ch, x, y, fx, fy, bw, bh, out);
-    limits::DONE
+    route::predict_luma(pic, 0, w, w, h, x, y, fx, fy, block.w, block.h, out);
+}
+
+// The block, moved by its vector in quarter samples, into out by rows.
+pub fn mc_luma(plane: Plane, block: Block, out: &mut [u8]) -> Result<(), Refusal>
+    ensures { (answered result ≡ plain_block_refusal 16 (length plane.entry.samples.now) plane.entry.w plane.entry.h block.x block.y block.w block.h (length out.old))
+        × (out.new ≡ after (answered result) out.old (drawn out.old block.w block.h (predicted_luma plane.entry.samples.now plane.entry.w plane.entry.h block.x block.y block.mv.x block.mv.y))) }
+{
+    limits::check_plain_block(limits::LUMA, plane, block, out.len())?;
+    predict(plane, block, out);
+    Ok(())
 }
 
 // (a + b + 1) / 2 of the first w bytes of two rows.
-pub fn avg_row_into(a: &[u8], b: &[u8], w: usize, out: &mut [u8]) -> u32
-    ensures { (result ≡ row_refusal (length a.now) (length b.now) w (length out.old))
-        × (out.new ≡ after result out.old (drawn out.old w 1 (row_mean a.now b.now))) }
+pub fn avg_row_into(a: &[u8], b: &[u8], w: usize, out: &mut [u8]) -> Result<(), Refusal>
+    ensures { (answered result ≡ row_refusal (length a.now) (length b.now) w (length out.old))
+        × (out.new ≡ after (answered result) out.old (drawn out.old w 1 (row_mean a.now b.now))) }
 {
     if a.len() < w {
-        return limits::SHORT_SOURCE;
+        return Err(Refusal::ShortSource);
     }
     if b.len() < w {
-        return limits::SHORT_SOURCE;
+        return Err(Refusal::ShortSource);
     }
     if out.len() < w {
-        return limits::SHORT_OUTPUT;
+        return Err(Refusal::ShortOutput);
     }
     average::avg_run(a, 0, b, 0, w, out, 0);
-    limits::DONE
+    Ok(())
 }
