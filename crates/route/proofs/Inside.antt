@@ -18,6 +18,20 @@ use Rattle.route.specs.Area.{luma_near, chroma_near, Lies}
 pub rows_in : (j e h s : ℕ) → 0 < e → j + e ≤ h → j * s + (e - 1) * s ≤ (h - 1) * s
 rows_in j e h s p q = let b : j + (e - 1) ≤ h - 1 = omega arith in omega (arith, mul-le-mul_right s b)
 
+-- a window that starts u columns and v rows on in the area, and ends inside it
+pub lies : {len p stride w h x y base ew eh : ℕ} (u v : ℕ) → (base ≤ x) × (u ≡ x - base) → (base ≤ y) × (v ≡ y - base) → 0 < eh → u + ew ≤ w → v + eh ≤ h
+    → p + (h - 1) * stride + w ≤ len → Lies len p stride w h x y base ew eh ew (p + v * stride + u)
+lies {stride = stride} {h = h} {eh = eh} u v a b e f g k =
+    let ends = rows_in v eh h stride e g in
+    record {
+      left = a.0;
+      right = omega arith;
+      above = b.0;
+      below = omega arith;
+      start = omega (arith, ap (λ (n : ℕ). n * stride) b.1);
+      room = omega (arith, ends);
+    }
+
 -- on one axis: a place inside is not moved
 near_on : (base n at i e : ℕ) → base ≤ at → at - base + e ≤ n → i < e → near base n (at + i) ≡ at - base + i
 near_on base n at i e a b c = omega arith

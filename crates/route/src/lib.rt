@@ -1,392 +1,222 @@
 // Blocks predicted from an area of a buffer, every coordinate clamped to it: read in place where the window lies inside, else by way of a tile.
 #![tactic(auto)]
 
-ghost use Rattle.std.specs.Prelude.{◌≡◌, true, ◌+◌, ◌*◌, ◌-◌, ◌^◌, ◌≤◌, ◌<◌, length};
+ghost use Rattle.std.specs.Prelude.{◌≡◌, true, ◌+◌, ◌*◌, ◌-◌, ◌/◌, ◌^◌, ◌≤◌, ◌<◌, length, IfSome};
 ghost use Rattle.grid.specs.Block.{drawn};
 ghost use Rattle.place.specs.Near.{near_area};
 ghost use Rattle.kernels.specs.Width.{copied};
 ghost use Rattle.route.specs.Area.{luma_near, chroma_near, Lies};
 
 use kernels::{full, predict};
+use place::area::{Aim, Area};
 use place::{coords, tiles};
 
-// Where a window starts in the buffer, if it can be read there.
-#[derive(Clone, Copy)]
-pub struct Spot {
-    pub inside: bool,
-    pub at: usize,
-}
-
-const NOWHERE: Spot = Spot {
-    inside: false,
-    at: 0,
-};
-
-// Where ew by eh samples start, if they lie inside the area, which ends within the len bytes of its buffer.
-fn spot_in(
-    len: usize,
-    p: usize,
-    stride: usize,
-    w: usize,
-    h: usize,
-    x: usize,
-    y: usize,
-    base: usize,
-    ew: usize,
-    eh: usize,
-) -> Spot
-    requires { (0 < w) × (0 < h) × (p + (h - 1) * stride + w ≤ len) × (0 < eh) × (x + ew < 2 ^ 32) × (y + eh < 2 ^ 32) }
-    ensures { result.inside ≡ true → Lies len p stride w h x y base ew eh ew result.at }
+// Where a block starts with `around` samples more on each axis, `before` of them before it, if they lie inside the area.
+fn spot_in<const STEPS: usize>(
+    area: Area,
+    aim: Aim<STEPS>,
+    before: usize,
+    around: usize,
+) -> Option<usize>
+    requires { (before ≤ 2) × (around ≤ 5) }
+    ensures { IfSome result (λ at. Lies (length area.entry.samples.now) area.entry.at area.entry.stride area.entry.w area.entry.h aim.entry.x aim.entry.y (2 ^ 31 / STEPS + before) (aim.entry.w + around) (aim.entry.h + around) (aim.entry.w + around) at) }
 {
-    if x < base {
-        return NOWHERE;
+    let base = coords::base::<STEPS>() + before;
+    let x = aim.x.checked_sub(base)?;
+    let y = aim.y.checked_sub(base)?;
+    let w = aim.w + around;
+    let h = aim.h + around;
+    if area.w < x + w {
+        return None;
     }
-    if y < base {
-        return NOWHERE;
+    if area.h < y + h {
+        return None;
     }
-    if w < x - base + ew {
-        return NOWHERE;
-    }
-    if h < y - base + eh {
-        return NOWHERE;
-    }
-    Spot {
-        inside: true,
-        at: p + (y - base) * stride + (x - base),
-    }
+    Some(area.at + y * area.stride + x)
 }
 
 // The same of a window whose last row is read with as many lanes.
-pub fn locate(
-    len: usize,
-    p: usize,
-    stride: usize,
-    w: usize,
-    h: usize,
-    x: usize,
-    y: usize,
-    base: usize,
-    ew: usize,
-    eh: usize,
+fn locate<const STEPS: usize>(
+    area: Area,
+    aim: Aim<STEPS>,
+    before: usize,
+    around: usize,
     lanes: usize,
-) -> Spot
-    requires { (0 < w) × (0 < h) × (p + (h - 1) * stride + w ≤ len) × (0 < eh) × (x + ew < 2 ^ 32) × (y + eh < 2 ^ 32) }
-    ensures { result.inside ≡ true → Lies len p stride w h x y base ew eh lanes result.at }
+) -> Option<usize>
+    requires { (before ≤ 2) × (around ≤ 5) }
+    ensures { IfSome result (λ at. Lies (length area.entry.samples.now) area.entry.at area.entry.stride area.entry.w area.entry.h aim.entry.x aim.entry.y (2 ^ 31 / STEPS + before) (aim.entry.w + around) (aim.entry.h + around) lanes at) }
 {
-    let s = spot_in(len, p, stride, w, h, x, y, base, ew, eh);
-    if s.inside {
-        let last = s.at + (eh - 1) * stride;
-        if lanes <= len - last {
-            return s;
-        }
-    }
-    NOWHERE
+    let at = spot_in(area, aim, before, around)?;
+    let last = at + (aim.h + around - 1) * area.stride;
+    (lanes <= area.samples.len() - last).then_some(at)
 }
 
 // The same of a block of a width that is copied.
-pub fn locate_full(
-    len: usize,
-    p: usize,
-    stride: usize,
-    w: usize,
-    h: usize,
-    x: usize,
-    y: usize,
-    base: usize,
-    bw: usize,
-    bh: usize,
-) -> Spot
-    requires { (0 < w) × (0 < h) × (p + (h - 1) * stride + w ≤ len) × (bw ≤ 16) × (0 < bh) × (x + bw < 2 ^ 32) × (y + bh < 2 ^ 32) }
-    ensures { result.inside ≡ true → (copied bw ≡ true) × Lies len p stride w h x y base bw bh bw result.at }
+fn locate_full<const STEPS: usize>(area: Area, aim: Aim<STEPS>) -> Option<usize>
+    ensures { IfSome result (λ at. (copied aim.entry.w ≡ true) × Lies (length area.entry.samples.now) area.entry.at area.entry.stride area.entry.w area.entry.h aim.entry.x aim.entry.y (2 ^ 31 / STEPS) aim.entry.w aim.entry.h aim.entry.w at) }
 {
-    if full::is_copied(bw) {
-        return spot_in(len, p, stride, w, h, x, y, base, bw, bh);
+    if full::is_copied(aim.w) {
+        return spot_in(area, aim, 0, 0);
     }
-    NOWHERE
+    None
 }
 
 // The same where the caller may know already that the block lies inside.
-pub fn locate_known(
-    inside: bool,
-    len: usize,
-    p: usize,
-    stride: usize,
-    w: usize,
-    h: usize,
-    x: usize,
-    y: usize,
-    base: usize,
-    bw: usize,
-    bh: usize,
-) -> Spot
-    requires { (inside ≡ true → (base ≤ x) × (x - base + bw ≤ w) × (base ≤ y) × (y - base + bh ≤ h)) × (0 < w) × (0 < h) × (p + (h - 1) * stride + w ≤ len) × (bw ≤ 16) × (0 < bh) × (x + bw < 2 ^ 32) × (y + bh < 2 ^ 32) }
-    ensures { result.inside ≡ true → (copied bw ≡ true) × Lies len p stride w h x y base bw bh bw result.at }
+pub fn locate_known<const STEPS: usize>(inside: bool, area: Area, aim: Aim<STEPS>) -> Option<usize>
+    requires { inside ≡ true → (2 ^ 31 / STEPS ≤ aim.x) × (aim.x - 2 ^ 31 / STEPS + aim.w ≤ area.w) × (2 ^ 31 / STEPS ≤ aim.y) × (aim.y - 2 ^ 31 / STEPS + aim.h ≤ area.h) }
+    ensures { IfSome result (λ at. (copied aim.entry.w ≡ true) × Lies (length area.entry.samples.now) area.entry.at area.entry.stride area.entry.w area.entry.h aim.entry.x aim.entry.y (2 ^ 31 / STEPS) aim.entry.w aim.entry.h aim.entry.w at) }
 {
-    if inside & full::is_copied(bw) {
-        return Spot {
-            inside: true,
-            at: p + (y - base) * stride + (x - base),
-        };
+    if inside & full::is_copied(aim.w) {
+        let base = coords::base::<STEPS>();
+        return Some(area.at + (aim.y - base) * area.stride + (aim.x - base));
     }
-    locate_full(len, p, stride, w, h, x, y, base, bw, bh)
+    locate_full(area, aim)
 }
 
-// The bw by bh full samples from the place (x, y) on, which were located at s.
-pub fn full_from(
-    s: Spot,
-    src: &[u8],
-    p: usize,
-    stride: usize,
-    w: usize,
-    h: usize,
-    x: usize,
-    y: usize,
-    base: usize,
-    bw: usize,
-    bh: usize,
+// The block's full samples, which were located at the spot.
+pub fn full_from<const STEPS: usize>(
+    spot: Option<usize>,
+    area: Area,
+    aim: Aim<STEPS>,
     out: &mut [u8],
 )
-    requires { (s.inside ≡ true → (copied bw ≡ true) × Lies (length src.now) p stride w h x y base bw bh bw s.at) × (0 < w) × (0 < h) × (p + (h - 1) * stride + w ≤ length src.now) × (x < 2 ^ 31) × (y < 2 ^ 31) × (1 ≤ bh) × (bw ≤ 16) × (bh ≤ 16) × (bw * bh ≤ length out.old) }
-    ensures { out.new ≡ drawn out.old bw bh (λ c r. near_area src.now p stride w h base (x + c) (y + r)) }
+    requires { (aim.w * aim.h ≤ length out.old)
+        × IfSome spot (λ at. (copied aim.w ≡ true) × Lies (length area.samples.now) area.at area.stride area.w area.h aim.x aim.y (2 ^ 31 / STEPS) aim.w aim.h aim.w at) }
+    ensures { out.new ≡ drawn out.old aim.entry.w aim.entry.h (λ c r. near_area area.entry.samples.now area.entry.at area.entry.stride area.entry.w area.entry.h (2 ^ 31 / STEPS) (aim.entry.x + c) (aim.entry.y + r)) }
 {
-    if s.inside {
-        full::full_block(src, s.at, stride, bw, bh, out);
-        return;
+    match spot {
+        Some(at) => full::full_block(area.samples, at, area.stride, aim.w, aim.h, out),
+        None => tiles::tile_into(out, area, aim, 0, 0),
     }
-    tiles::clamped_area(src, p, stride, w, h, x, y, base, bw, bh, out);
 }
 
-// The bw by bh full samples from the place (x, y) on.
-pub fn predict_full(
-    src: &[u8],
-    p: usize,
-    stride: usize,
-    w: usize,
-    h: usize,
-    x: usize,
-    y: usize,
-    base: usize,
-    bw: usize,
-    bh: usize,
-    out: &mut [u8],
-)
-    requires { (0 < w) × (0 < h) × (p + (h - 1) * stride + w ≤ length src.now) × (x < 2 ^ 31) × (y < 2 ^ 31) × (1 ≤ bh) × (bw ≤ 16) × (bh ≤ 16) × (bw * bh ≤ length out.old) }
-    ensures { out.new ≡ drawn out.old bw bh (λ c r. near_area src.now p stride w h base (x + c) (y + r)) }
+// The block's full samples.
+fn predict_full<const STEPS: usize>(area: Area, aim: Aim<STEPS>, out: &mut [u8])
+    requires { aim.w * aim.h ≤ length out.old }
+    ensures { out.new ≡ drawn out.old aim.entry.w aim.entry.h (λ c r. near_area area.entry.samples.now area.entry.at area.entry.stride area.entry.w area.entry.h (2 ^ 31 / STEPS) (aim.entry.x + c) (aim.entry.y + r)) }
 {
-    let s = locate_full(src.len(), p, stride, w, h, x, y, base, bw, bh);
-    full_from(s, src, p, stride, w, h, x, y, base, bw, bh, out);
+    full_from(locate_full(area, aim), area, aim, out);
 }
 
-// The luma block of a phase by way of its clamped tile.
-fn luma_tiled(
-    src: &[u8],
-    p: usize,
-    stride: usize,
-    w: usize,
-    h: usize,
-    x: usize,
-    y: usize,
-    fx: usize,
-    fy: usize,
-    bw: usize,
-    bh: usize,
-    out: &mut [u8],
-)
-    requires { (0 < w) × (0 < h) × (p + (h - 1) * stride + w ≤ length src.now) × (x < 2 ^ 31) × (y < 2 ^ 31) × (1 ≤ fx + fy) × (fx < 4) × (fy < 4) × (1 ≤ bh) × (bw ≤ 16) × (bh ≤ 16) × (bw * bh ≤ length out.old) }
-    ensures { out.new ≡ drawn out.old bw bh (luma_near src.now p stride w h x y fx fy) }
+// Where the window of a luma block starts, if it can be read there.
+pub fn locate_luma(area: Area, aim: Aim<4>) -> Option<usize>
+    ensures { IfSome result (λ at. Lies (length area.entry.samples.now) area.entry.at area.entry.stride area.entry.w area.entry.h aim.x aim.y (2 ^ 29 + 2) (aim.w + 5) (aim.h + 5) 21 at) }
+{
+    locate(area, aim, 2, 5, 21)
+}
+
+// The luma block of a phase other than (0, 0) by way of its clamped tile.
+fn luma_tiled(tile: &mut [u8], area: Area, aim: Aim<4>, out: &mut [u8])
+    requires { (441 ≤ length tile.old) × (1 ≤ aim.fx + aim.fy) × (aim.w * aim.h ≤ length out.old) }
+    ensures { out.new ≡ drawn out.old aim.w aim.h (luma_near area.entry.samples.now area.entry.at area.entry.stride area.entry.w area.entry.h aim.x aim.y aim.fx aim.fy) }
+{
+    tiles::tile_into(tile, area, aim, 2, 5);
+    predict::luma_block(tile, 0, aim.w + 5, aim.fx, aim.fy, aim.w, aim.h, out);
+}
+
+// The same with a tile of its own, in a function of its own: where the block is read in place, nothing pays for the tile.
+fn luma_by_tile(area: Area, aim: Aim<4>, out: &mut [u8])
+    requires { (1 ≤ aim.fx + aim.fy) × (aim.w * aim.h ≤ length out.old) }
+    ensures { out.new ≡ drawn out.old aim.w aim.h (luma_near area.entry.samples.now area.entry.at area.entry.stride area.entry.w area.entry.h aim.x aim.y aim.fx aim.fy) }
 {
     let mut tile = [0u8; 441];
-    tiles::luma_tile_into(&mut tile, src, p, stride, w, h, x, y, bw, bh);
-    predict::luma_block(&tile, 0, bw + 5, fx, fy, bw, bh, out);
+    luma_tiled(&mut tile, area, aim, out);
 }
 
-// The luma block of a phase other than (0, 0) at the place (x, y), 2^29 up.
-pub fn predict_luma(
-    src: &[u8],
-    p: usize,
-    stride: usize,
-    w: usize,
-    h: usize,
-    x: usize,
-    y: usize,
-    fx: usize,
-    fy: usize,
-    bw: usize,
-    bh: usize,
-    out: &mut [u8],
-)
-    requires { (0 < w) × (0 < h) × (p + (h - 1) * stride + w ≤ length src.now) × (x < 2 ^ 31) × (y < 2 ^ 31) × (1 ≤ fx + fy) × (fx < 4) × (fy < 4) × (1 ≤ bh) × (bw ≤ 16) × (bh ≤ 16) × (bw * bh ≤ length out.old) }
-    ensures { out.new ≡ drawn out.old bw bh (luma_near src.now p stride w h x y fx fy) }
+// The luma block of any phase.
+pub fn predict_luma(area: Area, aim: Aim<4>, out: &mut [u8])
+    requires { aim.w * aim.h ≤ length out.old }
+    ensures { out.new ≡ drawn out.old aim.w aim.h (luma_near area.entry.samples.now area.entry.at area.entry.stride area.entry.w area.entry.h aim.x aim.y aim.fx aim.fy) }
 {
-    let s = locate(
-        src.len(),
-        p,
-        stride,
-        w,
-        h,
-        x,
-        y,
-        coords::LUMA_BASE + 2,
-        bw + 5,
-        bh + 5,
-        21,
-    );
-    if s.inside {
-        predict::luma_block(src, s.at, stride, fx, fy, bw, bh, out);
+    if aim.fx + aim.fy == 0 {
+        predict_full(area, aim, out);
         return;
     }
-    luma_tiled(src, p, stride, w, h, x, y, fx, fy, bw, bh, out);
+    match locate_luma(area, aim) {
+        Some(at) => predict::luma_block(
+            area.samples,
+            at,
+            area.stride,
+            aim.fx,
+            aim.fy,
+            aim.w,
+            aim.h,
+            out,
+        ),
+        None => luma_by_tile(area, aim, out),
+    }
 }
 
 // The same with the tile in a lent slice.
-pub fn predict_luma_with(
-    tile: &mut [u8],
-    src: &[u8],
-    p: usize,
-    stride: usize,
-    w: usize,
-    h: usize,
-    x: usize,
-    y: usize,
-    fx: usize,
-    fy: usize,
-    bw: usize,
-    bh: usize,
-    out: &mut [u8],
-)
-    requires { (441 ≤ length tile.old) × (0 < w) × (0 < h) × (p + (h - 1) * stride + w ≤ length src.now) × (x < 2 ^ 31) × (y < 2 ^ 31) × (1 ≤ fx + fy) × (fx < 4) × (fy < 4) × (1 ≤ bh) × (bw ≤ 16) × (bh ≤ 16) × (bw * bh ≤ length out.old) }
-    ensures { out.new ≡ drawn out.old bw bh (luma_near src.now p stride w h x y fx fy) }
+pub fn predict_luma_with(tile: &mut [u8], area: Area, aim: Aim<4>, out: &mut [u8])
+    requires { (441 ≤ length tile.old) × (aim.w * aim.h ≤ length out.old) }
+    ensures { out.new ≡ drawn out.old aim.w aim.h (luma_near area.entry.samples.now area.entry.at area.entry.stride area.entry.w area.entry.h aim.x aim.y aim.fx aim.fy) }
 {
-    let s = locate(
-        src.len(),
-        p,
-        stride,
-        w,
-        h,
-        x,
-        y,
-        coords::LUMA_BASE + 2,
-        bw + 5,
-        bh + 5,
-        21,
-    );
-    if s.inside {
-        predict::luma_block(src, s.at, stride, fx, fy, bw, bh, out);
+    if aim.fx + aim.fy == 0 {
+        predict_full(area, aim, out);
         return;
     }
-    tiles::luma_tile_into(tile, src, p, stride, w, h, x, y, bw, bh);
-    predict::luma_block(tile, 0, bw + 5, fx, fy, bw, bh, out);
+    match locate_luma(area, aim) {
+        Some(at) => predict::luma_block(
+            area.samples,
+            at,
+            area.stride,
+            aim.fx,
+            aim.fy,
+            aim.w,
+            aim.h,
+            out,
+        ),
+        None => luma_tiled(tile, area, aim, out),
+    }
 }
 
-// The chroma block of a phase by way of its clamped tile.
-fn chroma_tiled(
-    src: &[u8],
-    p: usize,
-    stride: usize,
-    w: usize,
-    h: usize,
-    x: usize,
-    y: usize,
-    fx: usize,
-    fy: usize,
-    bw: usize,
-    bh: usize,
-    out: &mut [u8],
-)
-    requires { (0 < w) × (0 < h) × (p + (h - 1) * stride + w ≤ length src.now) × (x < 2 ^ 31) × (y < 2 ^ 31) × (fx < 8) × (fy < 8) × (bw ≤ 8) × (bh ≤ 8) × (bw * bh ≤ length out.old) }
-    ensures { out.new ≡ drawn out.old bw bh (chroma_near src.now p stride w h x y fx fy) }
+// Where the window of a chroma block starts, if it can be read there.
+pub fn locate_chroma(area: Area, aim: Aim<8>) -> Option<usize>
+    ensures { IfSome result (λ at. Lies (length area.entry.samples.now) area.entry.at area.entry.stride area.entry.w area.entry.h aim.x aim.y (2 ^ 28) (aim.w + 1) (aim.h + 1) 9 at) }
+{
+    locate(area, aim, 0, 1, 9)
+}
+
+// The chroma block by way of its clamped tile.
+fn chroma_by_tile(area: Area, aim: Aim<8>, out: &mut [u8])
+    requires { aim.w * aim.h ≤ length out.old }
+    ensures { out.new ≡ drawn out.old aim.w aim.h (chroma_near area.entry.samples.now area.entry.at area.entry.stride area.entry.w area.entry.h aim.x aim.y aim.fx aim.fy) }
 {
     let mut tile = [0u8; 81];
-    tiles::clamped_area(
-        src,
-        p,
-        stride,
-        w,
-        h,
-        x,
-        y,
-        coords::CHROMA_BASE,
-        bw + 1,
-        bh + 1,
-        &mut tile,
-    );
-    bilinear::chroma_block(&tile, 0, bw + 1, fx, fy, bw, bh, out);
+    tiles::tile_into(&mut tile, area, aim, 0, 1);
+    bilinear::chroma_block(&tile, 0, aim.w + 1, aim.fx, aim.fy, aim.w, aim.h, out);
 }
 
-// The chroma block of a phase at the place (x, y), 2^28 up, whose window was located at s.
-pub fn chroma_from(
-    s: Spot,
-    src: &[u8],
-    p: usize,
-    stride: usize,
-    w: usize,
-    h: usize,
-    x: usize,
-    y: usize,
-    fx: usize,
-    fy: usize,
-    bw: usize,
-    bh: usize,
-    out: &mut [u8],
-)
-    requires { (s.inside ≡ true → Lies (length src.now) p stride w h x y (2 ^ 28) (bw + 1) (bh + 1) 9 s.at) × (0 < w) × (0 < h) × (p + (h - 1) * stride + w ≤ length src.now) × (x < 2 ^ 31) × (y < 2 ^ 31) × (fx < 8) × (fy < 8) × (1 ≤ bh) × (bw ≤ 8) × (bh ≤ 8) × (bw * bh ≤ length out.old) }
-    ensures { out.new ≡ drawn out.old bw bh (chroma_near src.now p stride w h x y fx fy) }
+// The chroma block, whose window was located at the spot.
+pub fn chroma_from(spot: Option<usize>, area: Area, aim: Aim<8>, out: &mut [u8])
+    requires { (aim.w * aim.h ≤ length out.old)
+        × IfSome spot (λ at. Lies (length area.samples.now) area.at area.stride area.w area.h aim.x aim.y (2 ^ 28) (aim.w + 1) (aim.h + 1) 9 at) }
+    ensures { out.new ≡ drawn out.old aim.w aim.h (chroma_near area.entry.samples.now area.entry.at area.entry.stride area.entry.w area.entry.h aim.x aim.y aim.fx aim.fy) }
 {
-    if s.inside {
-        bilinear::chroma_block(src, s.at, stride, fx, fy, bw, bh, out);
+    match spot {
+        Some(at) => bilinear::chroma_block(
+            area.samples,
+            at,
+            area.stride,
+            aim.fx,
+            aim.fy,
+            aim.w,
+            aim.h,
+            out,
+        ),
+        None => chroma_by_tile(area, aim, out),
+    }
+}
+
+// The chroma block of any phase.
+pub fn predict_chroma(area: Area, aim: Aim<8>, out: &mut [u8])
+    requires { aim.w * aim.h ≤ length out.old }
+    ensures { out.new ≡ drawn out.old aim.w aim.h (chroma_near area.entry.samples.now area.entry.at area.entry.stride area.entry.w area.entry.h aim.x aim.y aim.fx aim.fy) }
+{
+    if aim.fx + aim.fy == 0 {
+        predict_full(area, aim, out);
         return;
     }
-    chroma_tiled(src, p, stride, w, h, x, y, fx, fy, bw, bh, out);
-}
-
-// Where the window of a chroma block starts.
-pub fn locate_chroma(
-    len: usize,
-    p: usize,
-    stride: usize,
-    w: usize,
-    h: usize,
-    x: usize,
-    y: usize,
-    bw: usize,
-    bh: usize,
-) -> Spot
-    requires { (0 < w) × (0 < h) × (p + (h - 1) * stride + w ≤ len) × (bw ≤ 8) × (bh ≤ 8) × (x < 2 ^ 31) × (y < 2 ^ 31) }
-    ensures { result.inside ≡ true → Lies len p stride w h x y (2 ^ 28) (bw + 1) (bh + 1) 9 result.at }
-{
-    locate(
-        len,
-        p,
-        stride,
-        w,
-        h,
-        x,
-        y,
-        coords::CHROMA_BASE,
-        bw + 1,
-        bh + 1,
-        9,
-    )
-}
-
-// The same, located here.
-pub fn predict_chroma(
-    src: &[u8],
-    p: usize,
-    stride: usize,
-    w: usize,
-    h: usize,
-    x: usize,
-    y: usize,
-    fx: usize,
-    fy: usize,
-    bw: usize,
-    bh: usize,
-    out: &mut [u8],
-)
-    requires { (0 < w) × (0 < h) × (p + (h - 1) * stride + w ≤ length src.now) × (x < 2 ^ 31) × (y < 2 ^ 31) × (fx < 8) × (fy < 8) × (1 ≤ bh) × (bw ≤ 8) × (bh ≤ 8) × (bw * bh ≤ length out.old) }
-    ensures { out.new ≡ drawn out.old bw bh (chroma_near src.now p stride w h x y fx fy) }
-{
-    let s = locate_chroma(src.len(), p, stride, w, h, x, y, bw, bh);
-    chroma_from(s, src, p, stride, w, h, x, y, fx, fy, bw, bh, out);
+    chroma_from(locate_chroma(area, aim), area, aim, out);
 }
