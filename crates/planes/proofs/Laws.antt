@@ -1,6 +1,6 @@
 -- What a call may rely on once nothing was refused; a plane's windows and the padded picture, in the code's unsigned places. Assumes nothing.
-use mathlib.Core.Path.{◌≡◌, sym, ap, ap₂, ◌∙◌}
-use mathlib.Core.Bool.{Bool}
+use mathlib.Core.Path.{◌≡◌, refl, sym, ap, ap₂, ◌∙◌}
+use mathlib.Core.Bool.{Bool, true, false, false≢true, ◌||◌}
 use mathlib.Core.List.{List, [], ◌∷◌}
 use Prim.Native.Nat.{ℕ, ◌+◌, ◌*◌, ◌^◌, ◌≤◌, ◌<◌}
 use native.Mathlib.Omega.{arith}
@@ -14,15 +14,28 @@ use Rattle.place.specs.Picture.{sample_at, window}
 use Rattle.place.specs.Place.{clamp_z}
 use Rattle.place.specs.Near.{near_area}
 use Rattle.place.specs.Refusal.{bad_sides, bad_pad, short, lowest}
-use Rattle.place.proofs.Refused.{passed, both_inside, first, second, split_zero}
+use Rattle.place.proofs.Refused.{hit, miss, none, passed, both_inside, first, second, split_zero}
 use Rattle.place.proofs.Windows.{sample_is}
 use Rattle.samples.specs.Tap.{half, centre}
 use Rattle.samples.specs.Phase.{Window, phases, anchor, luma_sample}
 use Rattle.samples.proofs.Reach.{mean_same, luma_six}
 use Rattle.samples.proofs.Word.{to_diff}
+use Rattle.terms.specs.declared.refusal.Refusal.{Refusal}
+use Rattle.terms.specs.declared.refusal.Refusal.TheVariants.{BadSide, ShortSource, BadBlock, BadPosition, ShortOutput, NotServed, BadReference}
+use Rattle.terms.specs.Refusal.{number_of}
 use Rattle.planes.specs.Planes.{needed, padded_at, across_at, down_at, centre_at, pad_refusal, build_refusal}
 
 -- ---- refusals
+
+-- a refusal's number is not the answer of a call that is done
+pub above_zero : (e : Refusal) → number_of e ≡ 0 → ⊥
+above_zero BadSide h = omega arith
+above_zero ShortSource h = omega arith
+above_zero BadBlock h = omega arith
+above_zero BadPosition h = omega arith
+above_zero ShortOutput h = omega arith
+above_zero NotServed h = omega arith
+above_zero BadReference h = omega arith
 
 -- the tests of the padded plane, and of the other three
 abbrev pad_tests : (len w h pad out : ℕ) → List (ℕ × Bool)
@@ -59,13 +72,34 @@ module _ (len w h pad f across down middle : ℕ) where
     pub c_room : (w + 2 * pad) * (h + 2 * pad) ≤ middle
 
   -- the answer is the first group's, and else the second's
-  pub build_first : (r : ℕ) → r ≡ pad_refusal len w h pad f → (r ≡ 0 → ⊥) → r ≡ build_refusal len w h pad f across down middle
+  pub build_first : (e : Refusal) → number_of e ≡ pad_refusal len w h pad f → number_of e ≡ build_refusal len w h pad f across down middle
   unfolding pad_refusal build_refusal
-  build_first r = first (pad_tests len w h pad f) (others (needed w h pad) across down middle) r
+  build_first e g = first (pad_tests len w h pad f) (others (needed w h pad) across down middle) (number_of e) g (above_zero e)
 
-  pub build_second : (r : ℕ) → 0 ≡ pad_refusal len w h pad f → r ≡ lowest (others (needed w h pad) across down middle) → r ≡ build_refusal len w h pad f across down middle
+  build_second : (r : ℕ) → 0 ≡ pad_refusal len w h pad f → r ≡ lowest (others (needed w h pad) across down middle) → r ≡ build_refusal len w h pad f across down middle
   unfolding pad_refusal build_refusal
   build_second r = second (pad_tests len w h pad f) (others (needed w h pad) across down middle) r tt
+
+  -- the other three, tested as one
+  pub one_short : 0 ≡ pad_refusal len w h pad f → (short across (needed w h pad) || short down (needed w h pad)) || short middle (needed w h pad) ≡ true
+      → 5 ≡ build_refusal len w h pad f across down middle
+  unfolding lowest
+  one_short e t = build_second 5 e (go (short across (needed w h pad)) (short down (needed w h pad)) (short middle (needed w h pad)) t)
+    where
+      go : (a b c : Bool) → (a || b) || c ≡ true → 5 ≡ lowest ((5, a) ∷ (5, b) ∷ (5, c) ∷ [])
+      go true b c t = refl
+      go false true c t = refl
+      go false false c t = hit [] t
+
+  pub none_short : 0 ≡ pad_refusal len w h pad f → (short across (needed w h pad) || short down (needed w h pad)) || short middle (needed w h pad) ≡ false
+      → 0 ≡ build_refusal len w h pad f across down middle
+  unfolding lowest
+  none_short e t = build_second 0 e (go (short across (needed w h pad)) (short down (needed w h pad)) (short middle (needed w h pad)) t)
+    where
+      go : (a b c : Bool) → (a || b) || c ≡ false → 0 ≡ lowest ((5, a) ∷ (5, b) ∷ (5, c) ∷ [])
+      go true b c t = absurd (false≢true (sym t))
+      go false true c t = absurd (false≢true (sym t))
+      go false false c t = miss 5 [] t none
 
   pub build_ok : 0 ≡ build_refusal len w h pad f across down middle → BuildOk
   unfolding pad_refusal build_refusal

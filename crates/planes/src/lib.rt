@@ -7,40 +7,52 @@ ghost use Rattle.grid.specs.Run.{put};
 ghost use Rattle.place.specs.Outcome.{after};
 ghost use Rattle.samples.specs.Tap.{half, centre};
 ghost use Rattle.samples.specs.Kernel.{window_at};
+ghost use Rattle.terms.specs.Refusal.{answered};
 ghost use Rattle.planes.specs.Planes.{wide, padded_at, across_at, down_at, centre_at, padded_plane, pad_refusal, build_refusal};
 
 use place::{coords, limits, tiles};
+use terms::plane::Plane;
+use terms::refusal::Refusal;
 
-fn check_pad(len: usize, w: usize, h: usize, pad: usize, out: usize) -> u32
-    ensures { result ≡ pad_refusal len w h pad out }
+// 1, 2 and 5; out is the length of the plane to be written.
+fn check_pad(plane: Plane, pad: usize, out: usize) -> Result<(), Refusal>
+    ensures { answered result ≡ pad_refusal (length plane.entry.samples.now) plane.entry.w plane.entry.h pad out }
 {
-    if limits::bad_sides(w, h) {
-        return limits::BAD_SIDE;
+    if limits::bad_sides(plane.w, plane.h) {
+        return Err(Refusal::BadSide);
     }
     if limits::MAX_PAD < pad {
-        return limits::BAD_SIDE;
+        return Err(Refusal::BadSide);
     }
-    if len < w * h {
-        return limits::SHORT_SOURCE;
+    if plane.samples.len() < plane.w * plane.h {
+        return Err(Refusal::ShortSource);
     }
-    if out < (w + 2 * pad) * (h + 2 * pad) {
-        return limits::SHORT_OUTPUT;
+    if out < (plane.w + 2 * pad) * (plane.h + 2 * pad) {
+        return Err(Refusal::ShortOutput);
     }
-    limits::DONE
+    Ok(())
 }
 
 // The picture with pad columns and rows of its nearest samples around it.
-pub fn pad_plane(src: &[u8], w: usize, h: usize, pad: usize, out: &mut [u8]) -> u32
-    ensures { (result ≡ pad_refusal (length src.now) w h pad (length out.old))
-        × (out.new ≡ after result out.old (drawn out.old (wide w pad) (wide h pad) (padded_at src.now w h pad))) }
+pub fn pad_plane(plane: Plane, pad: usize, out: &mut [u8]) -> Result<(), Refusal>
+    ensures { (answered result ≡ pad_refusal (length plane.entry.samples.now) plane.entry.w plane.entry.h pad (length out.old))
+        × (out.new ≡ after (answered result) out.old (drawn out.old (wide plane.entry.w pad) (wide plane.entry.h pad) (padded_at plane.entry.samples.now plane.entry.w plane.entry.h pad))) }
 {
-    let no = check_pad(src.len(), w, h, pad, out.len());
-    if no != limits::DONE {
-        return no;
-    }
+    check_pad(plane, pad, out.len())?;
+    draw_padded(plane, pad, out);
+    Ok(())
+}
+
+fn draw_padded(plane: Plane, pad: usize, out: &mut [u8])
+    requires { (1 ≤ plane.w) × (plane.w ≤ 8192) × (1 ≤ plane.h) × (plane.h ≤ 8192) × (pad ≤ 128) × (plane.w * plane.h ≤ length plane.samples.now) × (wide plane.w pad * wide plane.h pad ≤ length out.old) }
+    ensures { out.new ≡ drawn out.old (wide plane.entry.w pad) (wide plane.entry.h pad) (padded_at plane.entry.samples.now plane.entry.w plane.entry.h pad) }
+{
+    let Plane { samples, w, h } = plane;
+    let pw = w + 2 * pad;
+    let ph = h + 2 * pad;
     // A place pad up: column 0 of the plane is pad before the picture.
-    tiles::clamped_area(src, 0, w, w, h, 0, 0, pad, w + 2 * pad, h + 2 * pad, out);
-    limits::DONE
+    let left = 0;
+    tiles::clamped_area(samples, 0, w, w, h, left, 0, pad, pw, ph, out);
 }
 
 // n samples of each plane, written from o on; the first has its window at t[p].
@@ -143,68 +155,43 @@ fn build_hpel_rows(f: &[u8], pw: usize, ph: usize, h: &mut [u8], v: &mut [u8], c
     }
 }
 
+// The same of all four planes, by their lengths.
 fn check_build(
-    len: usize,
-    w: usize,
-    h: usize,
+    plane: Plane,
     pad: usize,
     f: usize,
     across: usize,
     down: usize,
     middle: usize,
-) -> u32
-    ensures { result ≡ build_refusal len w h pad f across down middle }
+) -> Result<(), Refusal>
+    ensures { answered result ≡ build_refusal (length plane.entry.samples.now) plane.entry.w plane.entry.h pad f across down middle }
 {
-    let no = check_pad(len, w, h, pad, f);
-    if no != limits::DONE {
-        return no;
+    check_pad(plane, pad, f)?;
+    let need = (plane.w + 2 * pad) * (plane.h + 2 * pad);
+    let short = (across < need) | (down < need) | (middle < need);
+    if short {
+        return Err(Refusal::ShortOutput);
     }
-    let need = (w + 2 * pad) * (h + 2 * pad);
-    if across < need {
-        return limits::SHORT_OUTPUT;
-    }
-    if down < need {
-        return limits::SHORT_OUTPUT;
-    }
-    if middle < need {
-        return limits::SHORT_OUTPUT;
-    }
-    limits::DONE
+    Ok(())
 }
 
-// f, h, v and c of a picture.
+// f, h, v and c of a picture. They are lent mutably, each by itself, so they stay four parameters.
 pub fn build_hpel_planes(
-    reference: &[u8],
-    cw: usize,
-    ch: usize,
+    plane: Plane,
     pad: usize,
     f: &mut [u8],
     h: &mut [u8],
     v: &mut [u8],
     c: &mut [u8],
-) -> u32
-    ensures { (result ≡ build_refusal (length reference.now) cw ch pad (length f.old) (length h.old) (length v.old) (length c.old))
-        × (f.new ≡ after result f.old (drawn f.old (wide cw pad) (wide ch pad) (padded_at reference.now cw ch pad)))
-        × (h.new ≡ after result h.old (drawn h.old (wide cw pad) (wide ch pad) (across_at (padded_plane reference.now cw ch pad) (wide cw pad) (wide ch pad))))
-        × (v.new ≡ after result v.old (drawn v.old (wide cw pad) (wide ch pad) (down_at (padded_plane reference.now cw ch pad) (wide cw pad) (wide ch pad))))
-        × (c.new ≡ after result c.old (drawn c.old (wide cw pad) (wide ch pad) (centre_at (padded_plane reference.now cw ch pad) (wide cw pad) (wide ch pad)))) }
+) -> Result<(), Refusal>
+    ensures { (answered result ≡ build_refusal (length plane.entry.samples.now) plane.entry.w plane.entry.h pad (length f.old) (length h.old) (length v.old) (length c.old))
+        × (f.new ≡ after (answered result) f.old (drawn f.old (wide plane.entry.w pad) (wide plane.entry.h pad) (padded_at plane.entry.samples.now plane.entry.w plane.entry.h pad)))
+        × (h.new ≡ after (answered result) h.old (drawn h.old (wide plane.entry.w pad) (wide plane.entry.h pad) (across_at (padded_plane plane.entry.samples.now plane.entry.w plane.entry.h pad) (wide plane.entry.w pad) (wide plane.entry.h pad))))
+        × (v.new ≡ after (answered result) v.old (drawn v.old (wide plane.entry.w pad) (wide plane.entry.h pad) (down_at (padded_plane plane.entry.samples.now plane.entry.w plane.entry.h pad) (wide plane.entry.w pad) (wide plane.entry.h pad))))
+        × (c.new ≡ after (answered result) c.old (drawn c.old (wide plane.entry.w pad) (wide plane.entry.h pad) (centre_at (padded_plane plane.entry.samples.now plane.entry.w plane.entry.h pad) (wide plane.entry.w pad) (wide plane.entry.h pad)))) }
 {
-    let no = check_build(
-        reference.len(),
-        cw,
-        ch,
-        pad,
-        f.len(),
-        h.len(),
-        v.len(),
-        c.len(),
-    );
-    if no != limits::DONE {
-        return no;
-    }
-    let pw = cw + 2 * pad;
-    let ph = ch + 2 * pad;
-    tiles::clamped_area(reference, 0, cw, cw, ch, 0, 0, pad, pw, ph, f);
-    build_hpel_rows(f, pw, ph, h, v, c);
-    limits::DONE
+    check_build(plane, pad, f.len(), h.len(), v.len(), c.len())?;
+    draw_padded(plane, pad, f);
+    build_hpel_rows(f, plane.w + 2 * pad, plane.h + 2 * pad, h, v, c);
+    Ok(())
 }

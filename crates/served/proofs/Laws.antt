@@ -1,16 +1,17 @@
 -- The tests of the half-sample planes in the code's unsigned places: each test, and what an answer of 0 tells. Assumes nothing.
-use Rattle.std.proofs.Common.{◌≡◌, ℕ, ◌+◌, ◌-◌, ◌*◌, ◌/◌, ◌%◌, ◌^◌, ◌<◌, ◌≤◌, Bool, true, false, not, ◌&&◌, ltb, ◌⊎◌, List, [], ◌∷◌, ◌++◌, ℤ, pos, ◌+ℤ◌, sym, refl, ap, ◌∙◌, ap₂, inl, inr, ⊎_elim, arith, ltb-false, le-ltb, lt-ltb}
+use Rattle.std.proofs.Common.{◌≡◌, ℕ, ◌+◌, ◌-◌, ◌*◌, ◌/◌, ◌%◌, ◌^◌, ◌<◌, ◌≤◌, Bool, true, false, not, ◌||◌, ◌&&◌, ltb, ◌⊎◌, List, [], ◌∷◌, ◌++◌, ℤ, pos, ◌+ℤ◌, sym, refl, ap, ◌∙◌, ap₂, inl, inr, ⊎_elim, arith, ltb-false, le-ltb, lt-ltb}
+use mathlib.Core.Bool.{false≢true}
 use lib.IntN.{sub_ℕ}
 use lib.Signed.{mag, lt_z}
 use Rattle.signed.specs.Lift.{up}
 use Rattle.signed.proofs.Diff.{lt_or_le, sub_ind}
 use Rattle.signed.proofs.Linear.{diff, linear, diff_same}
 use Rattle.place.specs.Place.{luma_place, phase}
-use Rattle.place.specs.Refusal.{short, lowest}
+use Rattle.place.specs.Refusal.{bad_sides, bad_block, bad_position, short, lowest}
 use Rattle.place.proofs.CoordLaws.{luma_up}
 use Rattle.place.proofs.Refused.{hit, miss, first, none, second, split_zero, passed, both_inside, both_below}
 use Rattle.place.proofs.Wraps.{wrapped}
-use Rattle.planes.specs.Planes.{wide}
+use Rattle.planes.specs.Planes.{wide, needed}
 use Rattle.served.specs.Served.{at_full, at_quarter, bad_width, before, beyond, lent_tests, place_tests, ref_refusal, qpel_refusal, block_refusal}
 
 -- ---- the tests of a place that is b up
@@ -43,7 +44,7 @@ abbrev pub up_tests : (unserved : Bool) (pw ph bw bh x y : ℕ) → List (ℕ ×
 up_tests unserved pw ph bw bh x y =
     (6, unserved) ∷ (6, ltb x (2 ^ 29)) ∷ (6, ltb y (2 ^ 29)) ∷ (6, ltb (pw + 2 ^ 29) (x + bw + 1)) ∷ (6, ltb (ph + 2 ^ 29) (y + bh + 1)) ∷ []
 
-pub up_tests_lem : (unserved : Bool) (pw ph bw bh x0 y0 pad : ℕ) (mvx mvy : ℤ) {x y : ℕ} → mag mvx < 2 ^ 31 → mag mvy < 2 ^ 31
+up_tests_lem : (unserved : Bool) (pw ph bw bh x0 y0 pad : ℕ) (mvx mvy : ℤ) {x y : ℕ} → mag mvx < 2 ^ 31 → mag mvy < 2 ^ 31
     → x ≡ x0 + up (2 ^ 31) mvx / 4 → y ≡ y0 + up (2 ^ 31) mvy / 4
     → up_tests unserved pw ph bw bh (x + pad) (y + pad) ≡ place_tests unserved pw ph bw bh (luma_place x0 mvx pad) (luma_place y0 mvy pad)
 unfolding place_tests diff
@@ -69,23 +70,99 @@ also n true rest e = refl
 also n false rest e = e
 
 module _ (u : Bool) (pw ph bw bh x y rx ry : ℕ) (hx : rx < 2 ^ 64) (hy : ry < 2 ^ 64) (ex : (rx + 2 ^ 29) % 2 ^ 64 ≡ x) (ey : (ry + 2 ^ 29) % 2 ^ 64 ≡ y) where
-  pub out_across : pw - bw ≤ rx → 6 ≡ lowest (up_tests u pw ph bw bh x y)
+  out_across : pw - bw ≤ rx → 6 ≡ lowest (up_tests u pw ph bw bh x y)
   out_across k =
       also _ _ _ (⊎_elim (λ (l : x < 2 ^ 29). hit _ (lt-ltb _ _ l)) (λ (l : pw + 2 ^ 29 < x + bw + 1). also _ _ _ (also _ _ _ (hit _ (lt-ltb _ _ l)))) (out_of pw bw x rx hx ex k))
 
-  pub out_down : ph - bh ≤ ry → 6 ≡ lowest (up_tests u pw ph bw bh x y)
+  out_down : ph - bh ≤ ry → 6 ≡ lowest (up_tests u pw ph bw bh x y)
   out_down k =
       also _ _ _ (also _ _ _ (⊎_elim (λ (l : y < 2 ^ 29). hit _ (lt-ltb _ _ l)) (λ (l : ph + 2 ^ 29 < y + bh + 1). also _ _ _ (also _ _ _ (hit _ (lt-ltb _ _ l)))) (out_of ph bh y ry hy ey k)))
 
-  pub none_out : pw < 2 ^ 63 → ph < 2 ^ 63 → u ≡ false → rx < pw - bw → ry < ph - bh → 0 ≡ lowest (up_tests u pw ph bw bh x y)
+  none_out : pw < 2 ^ 63 → ph < 2 ^ 63 → u ≡ false → rx < pw - bw → ry < ph - bh → 0 ≡ lowest (up_tests u pw ph bw bh x y)
   none_out s t o k l =
       let a = within pw bw x rx hx ex s k in
       let b = within ph bh y ry hy ey t l in
       miss 6 _ o (miss 6 _ a.0 (miss 6 _ b.0 (miss 6 _ a.1 (miss 6 _ b.1 none))))
 
+-- the same of the definition's tests: x and y as the code has them before pad is added
+module _ (u : Bool) (pw ph bw bh x0 y0 pad : ℕ) (mvx mvy : ℤ) (p : mag mvx < 2 ^ 31) (q : mag mvy < 2 ^ 31) {x y rx ry : ℕ}
+    (fx : x ≡ x0 + up (2 ^ 31) mvx / 4) (fy : y ≡ y0 + up (2 ^ 31) mvy / 4)
+    (hx : rx < 2 ^ 64) (hy : ry < 2 ^ 64) (ex : (rx + 2 ^ 29) % 2 ^ 64 ≡ x + pad) (ey : (ry + 2 ^ 29) % 2 ^ 64 ≡ y + pad) where
+  answers : {m : ℕ} → m ≡ lowest (up_tests u pw ph bw bh (x + pad) (y + pad)) → m ≡ lowest (place_tests u pw ph bw bh (luma_place x0 mvx pad) (luma_place y0 mvy pad))
+  answers e = e ∙ ap lowest (up_tests_lem u pw ph bw bh x0 y0 pad mvx mvy p q fx fy)
+
+  pub is_across : pw - bw ≤ rx → 6 ≡ lowest (place_tests u pw ph bw bh (luma_place x0 mvx pad) (luma_place y0 mvy pad))
+  is_across k = answers (out_across u pw ph bw bh _ _ rx ry hx hy ex ey k)
+
+  pub is_down : ph - bh ≤ ry → 6 ≡ lowest (place_tests u pw ph bw bh (luma_place x0 mvx pad) (luma_place y0 mvy pad))
+  is_down k = answers (out_down u pw ph bw bh _ _ rx ry hx hy ex ey k)
+
+  pub is_none : u ≡ false → pw < 2 ^ 63 → ph < 2 ^ 63 → rx < pw - bw → ry < ph - bh
+      → 0 ≡ lowest (place_tests u pw ph bw bh (luma_place x0 mvx pad) (luma_place y0 mvy pad))
+  is_none o s t k l = answers (none_out u pw ph bw bh _ _ rx ry hx hy ex ey s t o k l)
+
 -- the phase's test by another name
 pub same_test : {m : ℕ} {s t : Bool} (pw ph bw bh : ℕ) (px py : ℤ) → m ≡ lowest (place_tests s pw ph bw bh px py) → s ≡ t → m ≡ lowest (place_tests t pw ph bw bh px py)
 same_test pw ph bw bh px py e g = e ∙ ap (λ (b : Bool). lowest (place_tests b pw ph bw bh px py)) g
+
+-- ---- the tests of what is lent, as the code makes them
+
+-- four tests of one number, made as one
+one_short : (a b c d : Bool) (rest : List (ℕ × Bool)) → ((a || b) || c) || d ≡ true → 2 ≡ lowest ((2, a) ∷ (2, b) ∷ (2, c) ∷ (2, d) ∷ rest)
+unfolding lowest
+one_short true b c d rest t = refl
+one_short false true c d rest t = refl
+one_short false false true d rest t = refl
+one_short false false false d rest t = hit rest t
+
+none_short : (a b c d : Bool) (rest : List (ℕ × Bool)) {m : ℕ} → ((a || b) || c) || d ≡ false → m ≡ lowest rest
+    → m ≡ lowest ((2, a) ∷ (2, b) ∷ (2, c) ∷ (2, d) ∷ rest)
+unfolding lowest
+none_short true b c d rest t e = absurd (false≢true (sym t))
+none_short false true c d rest t e = absurd (false≢true (sym t))
+none_short false false true d rest t e = absurd (false≢true (sym t))
+none_short false false false d rest t e = miss 2 rest t e
+
+module _ (f h v c w ht pad x0 y0 bw bh : ℕ) where
+  abbrev pub all : ℕ
+  all = lowest (lent_tests f h v c w ht pad x0 y0 bw bh)
+
+  abbrev pub a_short : Bool
+  a_short = ((short f (needed w ht pad) || short h (needed w ht pad)) || short v (needed w ht pad)) || short c (needed w ht pad)
+
+  pub sides_refused : bad_sides w ht ≡ true → 1 ≡ all
+  unfolding lent_tests
+  sides_refused t = hit _ t
+
+  module _ (s : bad_sides w ht ≡ false) where
+    pub pad_refused : 128 < pad → 1 ≡ all
+    unfolding lent_tests
+    pad_refused t = miss 1 _ s (hit _ (lt-ltb _ _ t))
+
+    module _ (p : pad ≤ 128) where
+      pub short_refused : a_short ≡ true → 2 ≡ all
+      unfolding lent_tests
+      short_refused t = miss 1 _ s (miss 1 _ (le-ltb _ _ p) (one_short (short f (needed w ht pad)) (short h (needed w ht pad)) (short v (needed w ht pad)) (short c (needed w ht pad)) _ t))
+
+      module _ (l : a_short ≡ false) where
+        later : (m : ℕ) → m ≡ lowest ((3, bad_block 16 bw bh) ∷ (4, bad_position x0 y0) ∷ []) → m ≡ all
+        unfolding lent_tests
+        later m e =
+            miss 1 _ s (miss 1 _ (le-ltb _ _ p) (none_short (short f (needed w ht pad)) (short h (needed w ht pad)) (short v (needed w ht pad)) (short c (needed w ht pad)) _ l e))
+
+        pub block_refused : bad_block 16 bw bh ≡ true → 3 ≡ all
+        block_refused t = later 3 (hit _ t)
+
+        pub position_refused : bad_block 16 bw bh ≡ false → bad_position x0 y0 ≡ true → 4 ≡ all
+        position_refused b t = later 4 (miss 3 _ b (hit _ t))
+
+        pub none_refused : bad_block 16 bw bh ≡ false → bad_position x0 y0 ≡ false → 0 ≡ all
+        none_refused b t = later 0 (miss 3 _ b (miss 4 _ t none))
+
+-- and so in the tests of a lookup
+pub same_lookup : {m : ℕ} {s t : Bool} (lent : List (ℕ × Bool)) (pw ph bw bh : ℕ) (px py : ℤ) → m ≡ lowest (lent ++ place_tests s pw ph bw bh px py) → s ≡ t
+    → m ≡ lowest (lent ++ place_tests t pw ph bw bh px py)
+same_lookup lent pw ph bw bh px py e g = e ∙ ap (λ (b : Bool). lowest (lent ++ place_tests b pw ph bw bh px py)) g
 
 -- ---- THE LAWS OF 0
 

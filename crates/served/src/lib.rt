@@ -1,16 +1,29 @@
 // Which blocks the half-sample planes serve: document 01's tests, in the order of the numbers.
 #![tactic(auto)]
 
-ghost use Rattle.std.specs.Prelude.{◌≡◌, ◌+◌, ◌-◌, ◌*◌, ◌^◌, ◌<◌, ◌≤◌, not};
+ghost use Rattle.std.specs.Prelude.{◌≡◌, ◌+◌, ◌-◌, ◌*◌, ◌^◌, ◌<◌, ◌≤◌, ◌++◌, not};
+ghost use Rattle.terms.specs.Refusal.{answered};
 ghost use Rattle.place.specs.Refusal.{lowest};
-ghost use Rattle.place.specs.Place.{luma_place};
+ghost use Rattle.place.specs.Place.{luma_place, phase};
 ghost use Rattle.planes.specs.Planes.{wide};
 ghost use Rattle.served.specs.Served.{at_full, at_quarter, bad_width, lent_tests, place_tests, ref_refusal, qpel_refusal, block_refusal};
 
 use place::{coords, limits};
 use std::num;
+use terms::block::Block;
+use terms::refusal::Refusal;
 
-pub const NOT_SERVED: u32 = 6;
+// What is lent: the lengths of the planes f, h, v and c, each of which must suffice, read or not, the picture's sides, and the pad around it.
+#[derive(Clone, Copy, Debug, PartialEq, Eq)]
+pub struct Lent {
+    pub f: usize,
+    pub h: usize,
+    pub v: usize,
+    pub c: usize,
+    pub cw: usize,
+    pub ch: usize,
+    pub pad: usize,
+}
 
 pub fn at_full(fx: usize, fy: usize) -> bool
     ensures { result ≡ at_full fx fy }
@@ -34,174 +47,102 @@ fn bad_width(bw: usize) -> bool
     (WIDTHS >> (bw as u32)) % 2 == 0
 }
 
-// 1 to 4; f, h, v and c are the lengths of the planes lent, each of which must suffice, read or not.
-fn check_lent(
-    f: usize,
-    h: usize,
-    v: usize,
-    c: usize,
-    w: usize,
-    ht: usize,
-    pad: usize,
-    x0: usize,
-    y0: usize,
-    bw: usize,
-    bh: usize,
-) -> u32
-    ensures { result ≡ lowest (lent_tests f h v c w ht pad x0 y0 bw bh) }
+// 1 to 4.
+fn check_lent(lent: Lent, block: Block) -> Result<(), Refusal>
+    ensures { answered result ≡ lowest (lent_tests lent.f lent.h lent.v lent.c lent.cw lent.ch lent.pad block.x block.y block.w block.h) }
 {
-    if limits::bad_sides(w, ht) {
-        return limits::BAD_SIDE;
+    if limits::bad_sides(lent.cw, lent.ch) {
+        return Err(Refusal::BadSide);
     }
-    if limits::MAX_PAD < pad {
-        return limits::BAD_SIDE;
+    if limits::MAX_PAD < lent.pad {
+        return Err(Refusal::BadSide);
     }
-    let need = (w + 2 * pad) * (ht + 2 * pad);
-    if f < need {
-        return limits::SHORT_SOURCE;
+    let need = (lent.cw + 2 * lent.pad) * (lent.ch + 2 * lent.pad);
+    let short = (lent.f < need) | (lent.h < need) | (lent.v < need) | (lent.c < need);
+    if short {
+        return Err(Refusal::ShortSource);
     }
-    if h < need {
-        return limits::SHORT_SOURCE;
+    if limits::bad_block(limits::LUMA, block.w, block.h) {
+        return Err(Refusal::BadBlock);
     }
-    if v < need {
-        return limits::SHORT_SOURCE;
+    if limits::bad_position(block.x, block.y) {
+        return Err(Refusal::BadPosition);
     }
-    if c < need {
-        return limits::SHORT_SOURCE;
-    }
-    if limits::bad_block(limits::LUMA, bw, bh) {
-        return limits::BAD_BLOCK;
-    }
-    if limits::bad_position(x0, y0) {
-        return limits::BAD_POSITION;
-    }
-    limits::DONE
-}
-
-// How many places in n samples have b samples and one to spare, at full and half phase too.
-fn room(n: usize, b: usize) -> usize
-    ensures { result ≡ n - b }
-{
-    if b < n { n - b } else { 0 }
+    Ok(())
 }
 
 // 6: the phase, then left and right, above and below.
-fn check_place(
-    unserved: bool,
-    w: usize,
-    ht: usize,
-    pad: usize,
-    x0: usize,
-    y0: usize,
-    bw: usize,
-    bh: usize,
-    mvx: i32,
-    mvy: i32,
-) -> u32
-    requires { (w ≤ 8192) × (ht ≤ 8192) × (pad ≤ 128) × (x0 ≤ 65535) × (y0 ≤ 65535) × (bw ≤ 16) × (bh ≤ 16) }
-    ensures { result ≡ lowest (place_tests unserved (wide w pad) (wide ht pad) bw bh (luma_place x0 mvx pad) (luma_place y0 mvy pad)) }
+fn check_place(unserved: bool, lent: Lent, block: Block) -> Result<(), Refusal>
+    requires { (lent.cw ≤ 8192) × (lent.ch ≤ 8192) × (lent.pad ≤ 128) × (block.x ≤ 65535) × (block.y ≤ 65535) × (block.w ≤ 16) × (block.h ≤ 16) }
+    ensures { answered result ≡ lowest (place_tests unserved (wide lent.cw lent.pad) (wide lent.ch lent.pad) block.w block.h (luma_place block.x block.mv.x lent.pad) (luma_place block.y block.mv.y lent.pad)) }
 {
     if unserved {
-        return NOT_SERVED;
+        return Err(Refusal::NotServed);
     }
-    let x = num::wrapping_sub_usize(coords::luma_at(x0, mvx) + pad, coords::LUMA_BASE);
-    let y = num::wrapping_sub_usize(coords::luma_at(y0, mvy) + pad, coords::LUMA_BASE);
-    // A place before the plane wraps, and lies beyond every room.
-    if room(w + 2 * pad, bw) <= x {
-        return NOT_SERVED;
+    let x = num::wrapping_sub_usize(
+        coords::luma_at(block.x, block.mv.x) + lent.pad,
+        coords::LUMA_BASE,
+    );
+    let y = num::wrapping_sub_usize(
+        coords::luma_at(block.y, block.mv.y) + lent.pad,
+        coords::LUMA_BASE,
+    );
+    // n samples have room for n - b blocks of b samples and one to spare, at full and half phase too. A place before the plane wraps, and lies beyond every room.
+    let across = (lent.cw + 2 * lent.pad).saturating_sub(block.w);
+    if across <= x {
+        return Err(Refusal::NotServed);
     }
-    if room(ht + 2 * pad, bh) <= y {
-        return NOT_SERVED;
+    let down = (lent.ch + 2 * lent.pad).saturating_sub(block.h);
+    if down <= y {
+        return Err(Refusal::NotServed);
     }
-    limits::DONE
+    Ok(())
+}
+
+fn quarter(block: Block) -> bool
+    ensures { result ≡ at_quarter (phase block.mv.x 4) (phase block.mv.y 4) }
+{
+    at_quarter(
+        coords::luma_phase(block.mv.x),
+        coords::luma_phase(block.mv.y),
+    )
 }
 
 // Of `hpel_ref`: a full or half phase.
-pub fn check_ref(
-    f: usize,
-    h: usize,
-    v: usize,
-    c: usize,
-    w: usize,
-    ht: usize,
-    pad: usize,
-    x0: usize,
-    y0: usize,
-    bw: usize,
-    bh: usize,
-    mvx: i32,
-    mvy: i32,
-) -> u32
-    ensures { result ≡ ref_refusal f h v c w ht pad x0 y0 bw bh mvx mvy }
+pub fn check_ref(lent: Lent, block: Block) -> Result<(), Refusal>
+    ensures { answered result ≡ ref_refusal lent.f lent.h lent.v lent.c lent.cw lent.ch lent.pad block.x block.y block.w block.h block.mv.x block.mv.y }
 {
-    let lent = check_lent(f, h, v, c, w, ht, pad, x0, y0, bw, bh);
-    if lent != limits::DONE {
-        return lent;
-    }
-    let unserved = at_quarter(coords::luma_phase(mvx), coords::luma_phase(mvy));
-    check_place(unserved, w, ht, pad, x0, y0, bw, bh, mvx, mvy)
+    check_lookup(lent, block, quarter(block))
 }
 
 // Of `hpel_qpel_refs`: a quarter phase.
-pub fn check_qpel(
-    f: usize,
-    h: usize,
-    v: usize,
-    c: usize,
-    w: usize,
-    ht: usize,
-    pad: usize,
-    x0: usize,
-    y0: usize,
-    bw: usize,
-    bh: usize,
-    mvx: i32,
-    mvy: i32,
-) -> u32
-    ensures { result ≡ qpel_refusal f h v c w ht pad x0 y0 bw bh mvx mvy }
+pub fn check_qpel(lent: Lent, block: Block) -> Result<(), Refusal>
+    ensures { answered result ≡ qpel_refusal lent.f lent.h lent.v lent.c lent.cw lent.ch lent.pad block.x block.y block.w block.h block.mv.x block.mv.y }
 {
-    let lent = check_lent(f, h, v, c, w, ht, pad, x0, y0, bw, bh);
-    if lent != limits::DONE {
-        return lent;
-    }
-    let unserved = !at_quarter(coords::luma_phase(mvx), coords::luma_phase(mvy));
-    check_place(unserved, w, ht, pad, x0, y0, bw, bh, mvx, mvy)
+    check_lookup(lent, block, !quarter(block))
+}
+
+fn check_lookup(lent: Lent, block: Block, unserved: bool) -> Result<(), Refusal>
+    ensures { answered result ≡ lowest (lent_tests lent.f lent.h lent.v lent.c lent.cw lent.ch lent.pad block.x block.y block.w block.h
+        ++ place_tests unserved (wide lent.cw lent.pad) (wide lent.ch lent.pad) block.w block.h (luma_place block.x block.mv.x lent.pad) (luma_place block.y block.mv.y lent.pad)) }
+{
+    check_lent(lent, block)?;
+    check_place(unserved, lent, block)
 }
 
 // Of `hpel_block`: any phase but (0, 0), and widths 4, 8 and 16 alone at a quarter phase.
-pub fn check_block(
-    f: usize,
-    h: usize,
-    v: usize,
-    c: usize,
-    w: usize,
-    ht: usize,
-    pad: usize,
-    x0: usize,
-    y0: usize,
-    bw: usize,
-    bh: usize,
-    mvx: i32,
-    mvy: i32,
-    out: usize,
-) -> u32
-    ensures { result ≡ block_refusal f h v c w ht pad x0 y0 bw bh mvx mvy out }
+pub fn check_block(lent: Lent, block: Block, out: usize) -> Result<(), Refusal>
+    ensures { answered result ≡ block_refusal lent.f lent.h lent.v lent.c lent.cw lent.ch lent.pad block.x block.y block.w block.h block.mv.x block.mv.y out }
 {
-    let lent = check_lent(f, h, v, c, w, ht, pad, x0, y0, bw, bh);
-    if lent != limits::DONE {
-        return lent;
+    check_lent(lent, block)?;
+    if out < block.w * block.h {
+        return Err(Refusal::ShortOutput);
     }
-    if out < bw * bh {
-        return limits::SHORT_OUTPUT;
+    let fx = coords::luma_phase(block.mv.x);
+    let fy = coords::luma_phase(block.mv.y);
+    check_place(at_full(fx, fy), lent, block)?;
+    if at_quarter(fx, fy) & bad_width(block.w) {
+        return Err(Refusal::NotServed);
     }
-    let fx = coords::luma_phase(mvx);
-    let fy = coords::luma_phase(mvy);
-    let place = check_place(at_full(fx, fy), w, ht, pad, x0, y0, bw, bh, mvx, mvy);
-    if place != limits::DONE {
-        return place;
-    }
-    if at_quarter(fx, fy) & bad_width(bw) {
-        return NOT_SERVED;
-    }
-    limits::DONE
+    Ok(())
 }
