@@ -94,6 +94,7 @@ fn alone(p: bool, q: bool, s: bool) -> bool
     matches!((p, q, s), (true, false, false))
 }
 
+// The neighbours A, B and C of a block.
 #[derive(Clone, Copy, Debug, PartialEq, Eq)]
 pub struct Neighbors {
     pub a: MvNeighbor,
@@ -179,7 +180,7 @@ enum Mode {
     Quarters,
 }
 
-// Any other number is the whole.
+// The public calls take a mode by its number, and serve every number: what is no other mode is the whole.
 impl From<u8> for Mode {
     ghost from_gives = { λ n m. m ≡ mode_of n };
 
