@@ -4,8 +4,6 @@ use mathlib.Core.List.{List}
 use Prim.Native.Nat.{ℕ, ◌+◌, ◌/◌, ◌^◌, ◌<◌}
 use lib.IntN.{ℤ}
 use lib.Signed.{mag}
-use Rattle.std.proofs.Common.{to_z, of_z, w32}
-use Rattle.std.proofs.lemmas.Int.{to_z-of_z}
 use Rattle.signed.specs.Lift.{up}
 use Rattle.grid.specs.Block.{drawn}
 use Rattle.grid.proofs.Fill.{drawn_ext}
@@ -21,13 +19,3 @@ pub near_predicted : (out pic : List ℕ) (w h x0 y0 bw bh : ℕ) (mvx mvy : ℤ
 unfolding chroma_near predicted_chroma
 near_predicted out pic w h x0 y0 bw bh mvx mvy p q ex ey efx efy =
     drawn_ext out bw bh _ _ (λ c r _ _. rw (ex, ey, efx, efy) (chroma_four (phase mvx 8) (phase mvy 8) _ _ (λ i j _ _. sym (corner_is pic w h x0 y0 mvx mvy c r i j p q))))
-
--- the same of a vector that was read from a record
-pub read_predicted : (out pic : List ℕ) (w h x0 y0 bw bh : ℕ) (mvx mvy : ℤ) → mag mvx < 2 ^ 31 → mag mvy < 2 ^ 31
-    → {x y fx fy : ℕ} → x ≡ x0 + up (2 ^ 31) (to_z w32 (of_z w32 mvx)) / 8 → y ≡ y0 + up (2 ^ 31) (to_z w32 (of_z w32 mvy)) / 8
-    → fx ≡ phase (to_z w32 (of_z w32 mvx)) 8 → fy ≡ phase (to_z w32 (of_z w32 mvy)) 8
-    → drawn out bw bh (chroma_near pic 0 w w h x y fx fy) ≡ drawn out bw bh (predicted_chroma pic w h x0 y0 mvx mvy)
-read_predicted out pic w h x0 y0 bw bh mvx mvy p q ex ey efx efy =
-    let a = to_z-of_z w32 mvx (record { sfits = p }) in
-    let b = to_z-of_z w32 mvy (record { sfits = q }) in
-    near_predicted out pic w h x0 y0 bw bh mvx mvy p q (simp a at ex) (simp b at ey) (simp a at efx) (simp b at efy)

@@ -8,7 +8,8 @@ ghost use Rattle.place.specs.Refusal.{plain_block_refusal};
 ghost use Rattle.place.specs.Outcome.{after};
 ghost use Rattle.chroma.specs.Chroma.{predicted_chroma};
 
-use place::{coords, limits};
+use place::area::{Aim, Area};
+use place::limits;
 use terms::block::Block;
 use terms::plane::Plane;
 use terms::refusal::Refusal;
@@ -18,30 +19,15 @@ fn predict(plane: Plane, block: Block, out: &mut [u8])
     requires { 0 ≡ plain_block_refusal 8 (length plane.samples.now) plane.w plane.h block.x block.y block.w block.h (length out.old) }
     ensures { out.new ≡ drawn out.old block.w block.h (predicted_chroma plane.entry.samples.now plane.entry.w plane.entry.h block.x block.y block.mv.x block.mv.y) }
 {
-    let pic = plane.samples;
-    let w = plane.w;
-    let h = plane.h;
-    let x = coords::chroma_at(block.x, block.mv.x);
-    let y = coords::chroma_at(block.y, block.mv.y);
-    let fx = coords::chroma_phase(block.mv.x);
-    let fy = coords::chroma_phase(block.mv.y);
-    if fx + fy == 0 {
-        route::predict_full(
-            pic,
-            0,
-            w,
-            w,
-            h,
-            x,
-            y,
-            coords::CHROMA_BASE,
-            block.w,
-            block.h,
-            out,
-        );
-        return;
-    }
-    route::predict_chroma(pic, 0, w, w, h, x, y, fx, fy, block.w, block.h, out);
+    let area = Area {
+        samples: plane.samples,
+        at: 0,
+        stride: plane.w,
+        w: plane.w,
+        h: plane.h,
+    };
+    let aim = Aim::of(block);
+    route::predict_chroma(area, aim, out);
 }
 
 // The block, moved by its vector in eighth samples, into out by rows.

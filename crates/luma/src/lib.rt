@@ -9,7 +9,8 @@ ghost use Rattle.place.specs.Outcome.{after};
 ghost use Rattle.luma.specs.Luma.{predicted_luma};
 ghost use Rattle.luma.specs.Average.{row_refusal, row_mean};
 
-use place::{coords, limits};
+use place::area::{Aim, Area};
+use place::limits;
 use terms::block::Block;
 use terms::plane::Plane;
 use terms::refusal::Refusal;
@@ -19,30 +20,15 @@ fn predict(plane: Plane, block: Block, out: &mut [u8])
     requires { 0 ≡ plain_block_refusal 16 (length plane.samples.now) plane.w plane.h block.x block.y block.w block.h (length out.old) }
     ensures { out.new ≡ drawn out.old block.w block.h (predicted_luma plane.entry.samples.now plane.entry.w plane.entry.h block.x block.y block.mv.x block.mv.y) }
 {
-    let pic = plane.samples;
-    let w = plane.w;
-    let h = plane.h;
-    let x = coords::luma_at(block.x, block.mv.x);
-    let y = coords::luma_at(block.y, block.mv.y);
-    let fx = coords::luma_phase(block.mv.x);
-    let fy = coords::luma_phase(block.mv.y);
-    if fx + fy == 0 {
-        route::predict_full(
-            pic,
-            0,
-            w,
-            w,
-            h,
-            x,
-            y,
-            coords::LUMA_BASE,
-            block.w,
-            block.h,
-            out,
-        );
-        return;
-    }
-    route::predict_luma(pic, 0, w, w, h, x, y, fx, fy, block.w, block.h, out);
+    let area = Area {
+        samples: plane.samples,
+        at: 0,
+        stride: plane.w,
+        w: plane.w,
+        h: plane.h,
+    };
+    let aim = Aim::of(block);
+    route::predict_luma(area, aim, out);
 }
 
 // The block, moved by its vector in quarter samples, into out by rows.
@@ -69,6 +55,6 @@ pub fn avg_row_into(a: &[u8], b: &[u8], w: usize, out: &mut [u8]) -> Result<(), 
     if out.len() < w {
         return Err(Refusal::ShortOutput);
     }
-    average::avg_run(a, 0, b, 0, w, out, 0);
+    average::avg_run(&a[..w], &b[..w], &mut out[..w]);
     Ok(())
 }
