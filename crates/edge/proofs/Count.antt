@@ -14,8 +14,13 @@ use lib.Signed.{mag}
 use Rattle.signed.specs.Lift.{up}
 use Rattle.signed.proofs.Linear.{diff}
 use Rattle.place.proofs.CoordLaws.{luma_up}
-use Rattle.place.proofs.Refused.{passed, both_inside, both_below, area}
-use Rattle.edge.specs.Edge.{count, off, answer, edge_refusal, outside_count}
+use Rattle.std.specs.Prelude.{Result, Ok, Err, IsErrAnd}
+use Rattle.std.proofs.lemmas.Result.{err_from_is_err_and}
+use Rattle.terms.specs.declared.refusal.Refusal.{Refusal}
+use Rattle.terms.specs.Refusal.{number_of}
+use Rattle.terms.proofs.Number.{one_refusal}
+use Rattle.place.proofs.Refused.{passed, both_inside, both_below, area, above_zero}
+use Rattle.edge.specs.Edge.{count, off, answer, edges, edge_refusal, outside_count}
 use Rattle.edge.specs.declared.Edges.{Edges}
 
 -- a turn of the loop
@@ -90,3 +95,14 @@ done (suc n) m k e p = absurd (omega arith)
 
 pub refuses : (n m k : ℕ) → m ≡ n → (m ≡ 0 → ⊥) → ◌≡◌ {A = Edges} (record { refusal = m; count = 0 }) (answer n k)
 refuses n m k e h = refused m k h ∙ ap (λ (i : ℕ). answer i k) e
+
+-- a refusal that `?` hands on
+pub handed_edges : (r : Result ℕ Refusal) (e : Refusal) (n k : ℕ) → IsErrAnd r (λ x. x ≡ e) → number_of e ≡ n → edges r ≡ answer n k
+handed_edges r e n k h q = let p = err_from_is_err_and r h in rw (p.1, p.2) (refuses n (number_of e) k q (above_zero e))
+
+-- the record tells which answer it is
+pub one_edges : (p q : Result ℕ Refusal) → edges p ≡ edges q → p ≡ q
+one_edges (Ok m) (Ok n) e = ap Ok (ap (λ (x : Edges). x.count) e)
+one_edges (Ok m) (Err b) e = absurd (above_zero b (sym (ap (λ (x : Edges). x.refusal) e)))
+one_edges (Err a) (Ok n) e = absurd (above_zero a (ap (λ (x : Edges). x.refusal) e))
+one_edges (Err a) (Err b) e = ap Err (one_refusal a b (ap (λ (x : Edges). x.refusal) e))

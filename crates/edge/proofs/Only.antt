@@ -2,9 +2,11 @@
 -- `Post` is the contract as Rattle reads it from the source, so a clause that says less breaks this file. Assumes nothing.
 use mathlib.Core.Path.{◌≡◌, sym, ◌∙◌}
 use Prim.Native.Nat.{ℕ}
-use lib.IntN.{ℤ}
-use Rattle.edge.specs.declared.Edges.{Edges}
+use Rattle.std.specs.Prelude.{Result}
+use Rattle.terms.specs.declared.block.Block.{Block}
+use Rattle.terms.specs.declared.refusal.Refusal.{Refusal}
+use Rattle.edge.proofs.Count.{one_edges}
 use Rattle.edge.proofs.edge_count.Reads as reads
 
-pub edge_count_only : (x : ℕ × (ℕ × (ℕ × (ℕ × (ℕ × (ℕ × (ℤ × (ℤ × Unit {0})))))))) (r t : Edges) → reads.Post tt x r x → reads.Post tt x t x → r ≡ t
-edge_count_only x r t p q = p ∙ sym q
+pub edge_count_only : (x : ℕ × (ℕ × (Block × Unit {0}))) (r t : Result ℕ Refusal) → reads.Post tt x r x → reads.Post tt x t x → r ≡ t
+edge_count_only x r t p q = one_edges r t (p ∙ sym q)

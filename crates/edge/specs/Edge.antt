@@ -1,6 +1,8 @@
 -- Document 01, "Edge count": how many positions of a block lie outside the picture. Assumes nothing.
-use Rattle.std.specs.Prelude.{Bool, cond, ◌||◌, [], ◌∷◌, ℕ, zero, suc, ◌*◌, ◌/◌, ◌%◌, ℤ, pos}
+use Rattle.std.specs.Prelude.{Bool, cond, ◌||◌, [], ◌∷◌, ℕ, zero, suc, ◌*◌, ◌/◌, ◌%◌, ℤ, pos, Result, Ok, Err}
 use Rattle.std.specs.Int.Signed.{le_z, lt_z}
+use Rattle.terms.specs.declared.refusal.Refusal.{Refusal}
+use Rattle.terms.specs.Refusal.{number_of}
 use Rattle.place.specs.Place.{luma_place}
 use Rattle.place.specs.Refusal.{lowest, bad_sides, bad_block, bad_position}
 use Rattle.edge.specs.declared.Edges.{Edges}
@@ -24,3 +26,8 @@ outside_count w h x0 y0 bw bh mvx mvy = count (bw * bh) (λ k. off (luma_place x
 abbrev pub answer : ℕ → ℕ → Edges
 answer zero n = record { refusal = 0; count = n }
 answer (suc m) n = record { refusal = suc m; count = 0 }
+
+-- the answer of the call as the record of C
+abbrev pub edges : Result ℕ Refusal → Edges
+edges (Ok n) = record { refusal = 0; count = n }
+edges (Err e) = record { refusal = number_of e; count = 0 }

@@ -3,30 +3,48 @@
 
 ghost use Rattle.std.specs.Prelude.{◌≡◌, ◌||◌, ◌+◌, ◌*◌, ◌/◌, ◌%◌, ◌^◌, ◌≤◌, ◌<◌};
 ghost use Rattle.std.proofs.Math.IntN.{sub_ℕ};
-ghost use Rattle.edge.specs.Edge.{count, off, edge_refusal, outside_count, answer};
+ghost use Rattle.terms.specs.Refusal.{answered};
+ghost use Rattle.edge.specs.Edge.{count, off, edge_refusal, outside_count, answer, edges};
 
 use place::{coords, limits};
+use terms::block::Block;
+use terms::refusal::Refusal;
 
+// The answer as C has it: the refusal's number, or 0 and the count.
 #[repr(C)]
-#[derive(Clone, Copy)]
+#[derive(Clone, Copy, Debug, PartialEq, Eq)]
 pub struct Edges {
     pub refusal: u32,
     pub count: u32,
 }
 
-fn check_edge(w: usize, h: usize, x0: usize, y0: usize, bw: usize, bh: usize) -> u32
-    ensures { result ≡ edge_refusal w h x0 y0 bw bh }
+impl From<Result<u32, Refusal>> for Edges {
+    ghost from_gives = { λ r e. e ≡ edges r };
+
+    fn from(answer: Result<u32, Refusal>) -> Edges {
+        match answer {
+            Ok(count) => Edges { refusal: 0, count },
+            Err(refusal) => Edges {
+                refusal: refusal.number(),
+                count: 0,
+            },
+        }
+    }
+}
+
+fn check_edge(w: usize, h: usize, block: Block) -> Result<(), Refusal>
+    ensures { answered result ≡ edge_refusal w h block.x block.y block.w block.h }
 {
     if limits::bad_sides(w, h) {
-        return limits::BAD_SIDE;
+        return Err(Refusal::BadSide);
     }
-    if limits::bad_block(limits::LUMA, bw, bh) {
-        return limits::BAD_BLOCK;
+    if limits::bad_block(limits::LUMA, block.w, block.h) {
+        return Err(Refusal::BadBlock);
     }
-    if limits::bad_position(x0, y0) {
-        return limits::BAD_POSITION;
+    if limits::bad_position(block.x, block.y) {
+        return Err(Refusal::BadPosition);
     }
-    limits::DONE
+    Ok(())
 }
 
 // A place that is 2^29 up lies outside.
@@ -51,29 +69,12 @@ fn count_off(x: usize, y: usize, w: usize, h: usize, bw: usize, bh: usize) -> u3
     n
 }
 
-pub fn edge_count(
-    w: usize,
-    h: usize,
-    x0: usize,
-    y0: usize,
-    bw: usize,
-    bh: usize,
-    mvx: i32,
-    mvy: i32,
-) -> Edges
-    ensures { result ≡ answer (edge_refusal w h x0 y0 bw bh) (outside_count w h x0 y0 bw bh mvx mvy) }
+// How many positions of the block, moved by its vector, lie outside a picture of w by h samples.
+pub fn edge_count(w: usize, h: usize, block: Block) -> Result<u32, Refusal>
+    ensures { edges result ≡ answer (edge_refusal w h block.x block.y block.w block.h) (outside_count w h block.x block.y block.w block.h block.mv.x block.mv.y) }
 {
-    let no = check_edge(w, h, x0, y0, bw, bh);
-    if no != limits::DONE {
-        return Edges {
-            refusal: no,
-            count: 0,
-        };
-    }
-    let x = coords::luma_at(x0, mvx);
-    let y = coords::luma_at(y0, mvy);
-    Edges {
-        refusal: limits::DONE,
-        count: count_off(x, y, w, h, bw, bh),
-    }
+    check_edge(w, h, block)?;
+    let x = coords::luma_at(block.x, block.mv.x);
+    let y = coords::luma_at(block.y, block.mv.y);
+    Ok(count_off(x, y, w, h, block.w, block.h))
 }

@@ -2,9 +2,12 @@
 #![tactic(auto)]
 
 ghost use Rattle.std.specs.Prelude.{◌≡◌};
+ghost use Rattle.terms.specs.Refusal.{answered};
 ghost use Rattle.lent.specs.Lent.{Predicted};
 
 use margins::Geometry;
+use terms::block::Block;
+use terms::refusal::Refusal;
 
 // The scratch of the luma route: a tile of 21 by 21 samples and two anchors.
 #[repr(C)]
@@ -21,62 +24,24 @@ pub fn luma_arrays(
     a: &mut [u8; 256],
     b: &mut [u8; 256],
     padded: &[u8],
-    stride: usize,
-    pad: usize,
-    pw: usize,
-    ph: usize,
-    x0: usize,
-    y0: usize,
-    bw: usize,
-    bh: usize,
-    mvx: i32,
-    mvy: i32,
+    g: Geometry,
+    block: Block,
     out: &mut [u8],
-) -> u32
-    ensures { Predicted tile.old a.old b.old padded.now stride pad pw ph x0 y0 bw bh mvx mvy out.old tile.new a.new b.new out.new result }
+) -> Result<(), Refusal>
+    ensures { Predicted tile.old a.old b.old padded.now g.stride g.pad g.pw g.ph block.x block.y block.w block.h block.mv.x block.mv.y out.old tile.new a.new b.new out.new (answered result) }
 {
-    let g = Geometry {
-        stride: stride,
-        pad: pad,
-        pw: pw,
-        ph: ph,
-    };
-    padded::mc_luma_padded_slices(tile, a, b, padded, g, x0, y0, bw, bh, mvx, mvy, out)
+    padded::mc_luma_padded_slices(tile, a, b, padded, g, block, out)
 }
 
 // `mc_luma_padded` with the scratch lent.
 pub fn mc_luma_padded_pre(
     scr: &mut McScratch,
     padded: &[u8],
-    stride: usize,
-    pad: usize,
-    pw: usize,
-    ph: usize,
-    x0: usize,
-    y0: usize,
-    bw: usize,
-    bh: usize,
-    mvx: i32,
-    mvy: i32,
+    g: Geometry,
+    block: Block,
     out: &mut [u8],
-) -> u32
-    ensures { Predicted scr.old.tile scr.old.a scr.old.b padded.now stride pad pw ph x0 y0 bw bh mvx mvy out.old scr.new.tile scr.new.a scr.new.b out.new result }
+) -> Result<(), Refusal>
+    ensures { Predicted scr.old.tile scr.old.a scr.old.b padded.now g.stride g.pad g.pw g.ph block.x block.y block.w block.h block.mv.x block.mv.y out.old scr.new.tile scr.new.a scr.new.b out.new (answered result) }
 {
-    luma_arrays(
-        &mut scr.tile,
-        &mut scr.a,
-        &mut scr.b,
-        padded,
-        stride,
-        pad,
-        pw,
-        ph,
-        x0,
-        y0,
-        bw,
-        bh,
-        mvx,
-        mvy,
-        out,
-    )
+    luma_arrays(&mut scr.tile, &mut scr.a, &mut scr.b, padded, g, block, out)
 }
