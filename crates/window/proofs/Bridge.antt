@@ -18,7 +18,10 @@ use Rattle.place.specs.Near.{near, near_area}
 use Rattle.place.proofs.CoordLaws.{diff_negsuc, clamp_sub, luma_up, chroma_up}
 use Rattle.samples.proofs.Reach.{both, luma_six, chroma_four}
 use Rattle.margins.specs.Margin.{interior}
-use Rattle.route.specs.Area.{luma_near, chroma_near}
+use Rattle.samples.specs.Phase.{luma_sample}
+use Rattle.samples.specs.Bilinear.{chroma_sample}
+use Rattle.route.specs.Area.{near_by, luma_near, chroma_near}
+use Rattle.route.proofs.Inside.{luma_is, chroma_is}
 use Rattle.window.specs.Area.{passes, Part, part, area_of}
 use Rattle.window.specs.Padded.{in_reach, luma_direct, chroma_direct, column, read_at, padded_luma, padded_chroma}
 use Rattle.window.proofs.Tests.{to_diff, reached}
@@ -146,15 +149,17 @@ module _ (out buf : List ℕ) (stride pad w h x0 y0 bw bh : ℕ) (mvx mvy : ℤ)
   pub luma_seen : (x ≡ x0 + up (2 ^ 31) mvx / 4) × (y ≡ y0 + up (2 ^ 31) mvy / 4) × (fx ≡ phase mvx 4) × (fy ≡ phase mvy 4) × (bw₀ ≡ bw) × (bh₀ ≡ bh)
       → d ≡ passes 2 3 (2 ^ 29) x y bw₀ bh₀ w h pad → part at w₁ h₁ x₁ y₁ ≡ area_of d stride pad w h x y
       → (buf₁ ≡ buf) × (stride₁ ≡ stride) → (fx₁ ≡ fx) × (fy₁ ≡ fy) × (bw₁ ≡ bw₀) × (bh₁ ≡ bh₀)
-      → drawn out bw₁ bh₁ (luma_near buf₁ at stride₁ w₁ h₁ x₁ y₁ fx₁ fy₁) ≡ drawn out bw bh (padded_luma buf stride pad w h x0 y0 bw bh mvx mvy)
+      → drawn out bw₁ bh₁ (near_by (luma_sample 255) buf₁ at stride₁ w₁ h₁ (2 ^ 29 + 2) x₁ y₁ fx₁ fy₁) ≡ drawn out bw bh (padded_luma buf stride pad w h x0 y0 bw bh mvx mvy)
   luma_seen a t e s k =
-      rw (s.0, s.1, k.0, k.1, k.2, k.3, a.4, a.5)
+      luma_is out buf₁ at stride₁ w₁ h₁ x₁ y₁ fx₁ fy₁ bw₁ bh₁
+      ∙ rw (s.0, s.1, k.0, k.1, k.2, k.3, a.4, a.5)
       (luma_drawn out buf stride pad w h x0 y0 bw bh mvx mvy p q a.0 a.1 a.2 a.3 (rw (a.4, a.5) at t) e)
 
   pub chroma_seen : (x ≡ x0 + up (2 ^ 31) mvx / 8) × (y ≡ y0 + up (2 ^ 31) mvy / 8) × (fx ≡ phase mvx 8) × (fy ≡ phase mvy 8) × (bw₀ ≡ bw) × (bh₀ ≡ bh)
       → d ≡ passes 0 1 (2 ^ 28) x y bw₀ bh₀ w h pad → part at w₁ h₁ x₁ y₁ ≡ area_of d stride pad w h x y
       → (buf₁ ≡ buf) × (stride₁ ≡ stride) → (fx₁ ≡ fx) × (fy₁ ≡ fy) × (bw₁ ≡ bw₀) × (bh₁ ≡ bh₀)
-      → drawn out bw₁ bh₁ (chroma_near buf₁ at stride₁ w₁ h₁ x₁ y₁ fx₁ fy₁) ≡ drawn out bw bh (padded_chroma buf stride pad w h x0 y0 bw bh mvx mvy)
+      → drawn out bw₁ bh₁ (near_by chroma_sample buf₁ at stride₁ w₁ h₁ (2 ^ 28) x₁ y₁ fx₁ fy₁) ≡ drawn out bw bh (padded_chroma buf stride pad w h x0 y0 bw bh mvx mvy)
   chroma_seen a t e s k =
-      rw (s.0, s.1, k.0, k.1, k.2, k.3, a.4, a.5)
+      chroma_is out buf₁ at stride₁ w₁ h₁ x₁ y₁ fx₁ fy₁ bw₁ bh₁
+      ∙ rw (s.0, s.1, k.0, k.1, k.2, k.3, a.4, a.5)
       (chroma_drawn out buf stride pad w h x0 y0 bw bh mvx mvy p q a.0 a.1 a.2 a.3 (rw (a.4, a.5) at t) e)

@@ -10,6 +10,7 @@ ghost use Rattle.window.specs.Padded.{in_reach, padded_luma, padded_chroma};
 use margins::Geometry;
 use place::area::{Aim, Area};
 use place::coords;
+use route::component::{Chroma, Luma};
 use terms::block::Block;
 
 // A picture with margins in its buffer, of which nothing is refused.
@@ -119,7 +120,7 @@ pub fn luma_block(plane: PaddedPlane, block: Block, out: &mut [u8])
     let aim = Aim::<4>::of(block);
     let whole = reaches(plane, aim, 2, 3);
     let seen = look(whole, plane, aim);
-    route::predict_luma(seen.area, seen.aim, out);
+    route::predict::<Luma, 4, 441>(seen.area, seen.aim, out);
 }
 
 // The same with the tile in lent scratch.
@@ -130,7 +131,7 @@ pub fn luma_block_with(tile: &mut [u8], plane: PaddedPlane, block: Block, out: &
     let aim = Aim::<4>::of(block);
     let whole = reaches(plane, aim, 2, 3);
     let seen = look(whole, plane, aim);
-    route::predict_luma_with(tile, seen.area, seen.aim, out);
+    route::predict_with::<Luma, 4, 441>(tile, seen.area, seen.aim, out);
 }
 
 // A chroma block of which nothing is refused.
@@ -141,7 +142,7 @@ pub fn chroma_block(plane: PaddedPlane, block: Block, out: &mut [u8])
     let aim = Aim::<8>::of(block);
     let whole = reaches(plane, aim, 0, 1);
     let seen = look(whole, plane, aim);
-    route::predict_chroma(seen.area, seen.aim, out);
+    route::predict::<Chroma, 8, 81>(seen.area, seen.aim, out);
 }
 
 // A block of each of two planes of one geometry, of which nothing is refused: located once.
@@ -186,7 +187,7 @@ pub fn chroma_pair(u: PaddedPlane, v: PaddedPlane, block: Block, outu: &mut [u8]
         route::full_from(spot, in_v, seen.aim, outv);
         return;
     }
-    let spot = route::locate_chroma(seen.area, seen.aim);
-    route::chroma_from(spot, in_u, seen.aim, outu);
-    route::chroma_from(spot, in_v, seen.aim, outv);
+    let spot = route::locate_window::<Chroma, 8, 81>(seen.area, seen.aim);
+    route::predict_from::<Chroma, 8, 81>(spot, in_u, seen.aim, outu);
+    route::predict_from::<Chroma, 8, 81>(spot, in_v, seen.aim, outv);
 }

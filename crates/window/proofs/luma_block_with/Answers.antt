@@ -17,6 +17,6 @@ returns c =
     let across : SFits w32 b.mv.x = search rules in
     let down : SFits w32 b.mv.y = search rules in
     let seen = c.look-seen.ensures in
-    c.predict_luma_with.ensures
+    c.predict_with.ensures
     ∙ luma_seen c.args.out.now c.args.plane.samples.now g.stride g.pad g.pw g.ph b.x b.y b.w b.h b.mv.x b.mv.y across.sfits down.sfits
     c.of-aim.ensures c.reaches-whole.ensures seen.place seen.source seen.block
