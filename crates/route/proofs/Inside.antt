@@ -2,7 +2,7 @@
 use mathlib.Core.Path.{◌≡◌, refl, sym, ap, ap₂, ◌∙◌}
 use mathlib.Core.List.{List}
 use Prim.Native.Nat.{ℕ, ◌+◌, ◌*◌, ◌-◌, ◌^◌, ◌≤◌, ◌<◌}
-use native.Mathlib.Nat.{mul-le-mul_right, add-zero}
+use native.Mathlib.Nat.{mul-le-mul_right}
 use native.Mathlib.Omega.{arith}
 use lib.ListN.{get_or}
 use Rattle.grid.specs.Block.{drawn}
@@ -12,7 +12,7 @@ use Rattle.samples.specs.Phase.{luma_sample}
 use Rattle.samples.specs.Bilinear.{chroma_sample}
 use Rattle.samples.specs.Kernel.{window_at}
 use Rattle.route.specs.Area.{near_by, luma_near, chroma_near, Lies}
-use Rattle.route.specs.Laws.{Sample, Reads, Full}
+use Rattle.route.specs.Laws.{Sample, ReadsWithin, AtFull}
 
 -- the last row of a window that ends inside starts no later than the area's last row
 pub rows_in : (j e h s : ℕ) → 0 < e → j + e ≤ h → j * s + (e - 1) * s ≤ (h - 1) * s
@@ -81,7 +81,7 @@ up k b n at = omega arith
 
 -- A BLOCK of each way to read: of full samples, out of windows that lie inside, out of the windows of a tile
 module _ (sample : Sample) (out src : List ℕ) (p stride w h base x y fx fy bw bh : ℕ) where
-  pub full : (before : ℕ) → Full sample before → fx + fy ≡ 0
+  pub full : (before : ℕ) → AtFull sample before → fx + fy ≡ 0
       → drawn out bw bh (λ c r. near_area src p stride w h base (x + c) (y + r)) ≡ drawn out bw bh (near_by sample src p stride w h (base + before) x y fx fy)
   unfolding near_area
   full before law e =
@@ -89,7 +89,7 @@ module _ (sample : Sample) (out src : List ℕ) (p stride w h base x y fx fy bw 
       ap₂ (λ (u v : ℕ). get_or src (p + v * stride + u) 0) (up before base w (x + c)) (up before base h (y + r))
       ∙ sym (law fx fy (λ i j. near_area src p stride w h (base + before) (x + c + i) (y + r + j)) e))
 
-  module _ (around : ℕ) (reads : Reads sample around) where
+  module _ (around : ℕ) (reads : ReadsWithin sample around) where
     pub placed : {len lanes at : ℕ} → Lies len p stride w h x y base (bw + around) (bh + around) lanes at
         → drawn out bw bh (λ c r. sample fx fy (window_at src at stride c r)) ≡ drawn out bw bh (near_by sample src p stride w h base x y fx fy)
     placed l = drawn_ext out bw bh _ _ (λ c r a b. reads fx fy _ _ (λ i j k m. place_windows src l c r i j (omega arith) (omega arith)))

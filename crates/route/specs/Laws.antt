@@ -1,5 +1,6 @@
 -- What luma and chroma have in common: a sample reads its window alone, one of phase (0, 0) is the sample at its place, and a block's window fits its tile. Assumes nothing.
-use Rattle.std.proofs.Common.{◌≡◌, ℕ, ◌+◌, ◌*◌, ◌-◌, ◌≤◌, ◌<◌, sym, ap, ap₂, ◌∙◌, mul-le-mul_right, mul-le-mul_left, arith}
+use Rattle.std.proofs.Common.{◌≡◌, ℕ, ◌+◌, ◌*◌, ◌-◌, ◌≤◌, ◌<◌, ap₂, ◌∙◌, arith}
+use Rattle.place.proofs.Refused.{area}
 use Rattle.samples.specs.Phase.{luma_sample}
 use Rattle.samples.specs.Bilinear.{chroma_sample}
 use Rattle.samples.proofs.Reach.{luma_six, luma_full, chroma_four, chroma_full}
@@ -9,42 +10,38 @@ abbrev pub Sample : Type 0
 Sample = ℕ → ℕ → (ℕ → ℕ → ℕ) → ℕ
 
 -- it reads `around` samples more than one on each axis
-abbrev pub Reads : Sample → ℕ → Type 0
-Reads sample around = (fx fy : ℕ) (f g : ℕ → ℕ → ℕ) → ((i j : ℕ) → i < around + 1 → j < around + 1 → f i j ≡ g i j) → sample fx fy f ≡ sample fx fy g
+abbrev pub ReadsWithin : Sample → ℕ → Type 0
+ReadsWithin sample around = (fx fy : ℕ) (f g : ℕ → ℕ → ℕ) → ((i j : ℕ) → i < around + 1 → j < around + 1 → f i j ≡ g i j) → sample fx fy f ≡ sample fx fy g
 
 -- of phase (0, 0) it is the one after `before` samples on each axis
-abbrev pub Full : Sample → ℕ → Type 0
-Full sample before = (fx fy : ℕ) (f : ℕ → ℕ → ℕ) → fx + fy ≡ 0 → sample fx fy f ≡ f before before
+abbrev pub AtFull : Sample → ℕ → Type 0
+AtFull sample before = (fx fy : ℕ) (f : ℕ → ℕ → ℕ) → fx + fy ≡ 0 → sample fx fy f ≡ f before before
 
 -- the window of a block of at most 64 steps a side, and the lanes that are read from its last row on, fit a tile
-abbrev pub Fits : (steps around lanes tile : ℕ) → Type 0
-Fits steps around lanes tile =
+abbrev pub TileHolds : (steps around lanes tile : ℕ) → Type 0
+TileHolds steps around lanes tile =
     (w h : ℕ) → 1 ≤ h → w * steps ≤ 64 → h * steps ≤ 64 → ((w + around) * (h + around) ≤ tile) × ((h - 1 + around) * (w + around) + lanes ≤ tile)
 
-pub luma_reads : Reads (luma_sample 255) 5
+pub luma_reads : ReadsWithin (luma_sample 255) 5
 luma_reads fx fy f g e = luma_six 255 f g e fx fy
 
-pub luma_at_full : Full (luma_sample 255) 2
+pub luma_at_full : AtFull (luma_sample 255) 2
 luma_at_full fx fy f e =
     let ex : fx ≡ 0 = omega arith in
     let ey : fy ≡ 0 = omega arith in
     ap₂ (λ (u v : ℕ). luma_sample 255 u v f) ex ey ∙ luma_full 255 f
 
-pub chroma_reads : Reads chroma_sample 1
+pub chroma_reads : ReadsWithin chroma_sample 1
 chroma_reads fx fy f g e = chroma_four fx fy f g e
 
-pub chroma_at_full : Full chroma_sample 0
+pub chroma_at_full : AtFull chroma_sample 0
 chroma_at_full fx fy f e =
     let ex : fx ≡ 0 = omega arith in
     let ey : fy ≡ 0 = omega arith in
     ap₂ (λ (u v : ℕ). chroma_sample u v f) ex ey ∙ chroma_full f
 
--- a product of bounded sides is bounded
-area : (k m n l : ℕ) → m ≤ k → n ≤ l → m * n ≤ k * l
-area k m n l a b = omega (arith, mul-le-mul_right n a, mul-le-mul_left k b)
-
-pub luma_fits : Fits 4 5 21 441
+pub luma_fits : TileHolds 4 5 21 441
 luma_fits w h a b c = omega (arith, area 21 (w + 5) (h + 5) 21 (omega arith) (omega arith), area 20 (h - 1 + 5) (w + 5) 21 (omega arith) (omega arith))
 
-pub chroma_fits : Fits 8 1 9 81
+pub chroma_fits : TileHolds 8 1 9 81
 chroma_fits w h a b c = omega (arith, area 9 (w + 1) (h + 1) 9 (omega arith) (omega arith), area 8 (h - 1 + 1) (w + 1) 9 (omega arith) (omega arith))

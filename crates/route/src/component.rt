@@ -5,7 +5,7 @@ ghost use Rattle.samples.specs.Kernel.{window_at};
 ghost use Rattle.samples.specs.Phase.{luma_sample};
 ghost use Rattle.samples.specs.Bilinear.{chroma_sample};
 ghost use Rattle.std.proofs.Common.{rules};
-ghost use Rattle.route.specs.Laws.{Sample, Reads, Full, Fits, luma_reads, luma_at_full, luma_fits, chroma_reads, chroma_at_full, chroma_fits};
+ghost use Rattle.route.specs.Laws.{Sample, ReadsWithin, AtFull, TileHolds, luma_reads, luma_at_full, luma_fits, chroma_reads, chroma_at_full, chroma_fits};
 
 use kernels::predict;
 use place::area::Aim;
@@ -34,11 +34,11 @@ pub trait Component<const STEPS: usize, const TILE: usize> {
 
     ghost near: { (BEFORE ≤ 2) × (AROUND ≤ 5) × (TILE ≤ 441) };
 
-    ghost reads: { Reads sample AROUND };
+    ghost reads: { ReadsWithin sample AROUND };
 
-    ghost full: { Full sample BEFORE };
+    ghost full: { AtFull sample BEFORE };
 
-    ghost fits: { Fits STEPS AROUND LANES TILE };
+    ghost fits: { TileHolds STEPS AROUND LANES TILE };
 }
 
 pub struct Luma;

@@ -22,7 +22,7 @@ use Rattle.samples.specs.Phase.{luma_sample}
 use Rattle.samples.specs.Bilinear.{chroma_sample}
 use Rattle.route.specs.Area.{near_by, luma_near, chroma_near}
 use Rattle.route.proofs.Inside.{luma_is, chroma_is}
-use Rattle.window.specs.Area.{passes, Part, part, area_of}
+use Rattle.window.specs.Area.{passes, Part, part_of, area_of}
 use Rattle.window.specs.Padded.{in_reach, luma_direct, chroma_direct, column, read_at, padded_luma, padded_chroma}
 use Rattle.window.proofs.Tests.{to_diff, reached}
 
@@ -147,7 +147,7 @@ module _ (out buf : List ℕ) (stride pad w h x0 y0 bw bh : ℕ) (mvx mvy : ℤ)
 module _ (out buf : List ℕ) (stride pad w h x0 y0 bw bh : ℕ) (mvx mvy : ℤ) (p : mag mvx < 2 ^ 31) (q : mag mvy < 2 ^ 31)
     {buf₁ : List ℕ} {stride₁ at w₁ h₁ x₁ y₁ fx₁ fy₁ bw₁ bh₁ x y fx fy bw₀ bh₀ : ℕ} {d : Bool} where
   pub luma_seen : (x ≡ x0 + up (2 ^ 31) mvx / 4) × (y ≡ y0 + up (2 ^ 31) mvy / 4) × (fx ≡ phase mvx 4) × (fy ≡ phase mvy 4) × (bw₀ ≡ bw) × (bh₀ ≡ bh)
-      → d ≡ passes 2 3 (2 ^ 29) x y bw₀ bh₀ w h pad → part at w₁ h₁ x₁ y₁ ≡ area_of d stride pad w h x y
+      → d ≡ passes 2 3 (2 ^ 29) x y bw₀ bh₀ w h pad → part_of at w₁ h₁ x₁ y₁ ≡ area_of d stride pad w h x y
       → (buf₁ ≡ buf) × (stride₁ ≡ stride) → (fx₁ ≡ fx) × (fy₁ ≡ fy) × (bw₁ ≡ bw₀) × (bh₁ ≡ bh₀)
       → drawn out bw₁ bh₁ (near_by (luma_sample 255) buf₁ at stride₁ w₁ h₁ (2 ^ 29 + 2) x₁ y₁ fx₁ fy₁) ≡ drawn out bw bh (padded_luma buf stride pad w h x0 y0 bw bh mvx mvy)
   luma_seen a t e s k =
@@ -156,7 +156,7 @@ module _ (out buf : List ℕ) (stride pad w h x0 y0 bw bh : ℕ) (mvx mvy : ℤ)
       (luma_drawn out buf stride pad w h x0 y0 bw bh mvx mvy p q a.0 a.1 a.2 a.3 (rw (a.4, a.5) at t) e)
 
   pub chroma_seen : (x ≡ x0 + up (2 ^ 31) mvx / 8) × (y ≡ y0 + up (2 ^ 31) mvy / 8) × (fx ≡ phase mvx 8) × (fy ≡ phase mvy 8) × (bw₀ ≡ bw) × (bh₀ ≡ bh)
-      → d ≡ passes 0 1 (2 ^ 28) x y bw₀ bh₀ w h pad → part at w₁ h₁ x₁ y₁ ≡ area_of d stride pad w h x y
+      → d ≡ passes 0 1 (2 ^ 28) x y bw₀ bh₀ w h pad → part_of at w₁ h₁ x₁ y₁ ≡ area_of d stride pad w h x y
       → (buf₁ ≡ buf) × (stride₁ ≡ stride) → (fx₁ ≡ fx) × (fy₁ ≡ fy) × (bw₁ ≡ bw₀) × (bh₁ ≡ bh₀)
       → drawn out bw₁ bh₁ (near_by chroma_sample buf₁ at stride₁ w₁ h₁ (2 ^ 28) x₁ y₁ fx₁ fy₁) ≡ drawn out bw bh (padded_chroma buf stride pad w h x0 y0 bw bh mvx mvy)
   chroma_seen a t e s k =

@@ -15,10 +15,10 @@ pub record Part : Type 0 where
   pub x : ℕ
   pub y : ℕ
 
-abbrev pub part : (p w h x y : ℕ) → Part
-part p w h x y = record { p = p; w = w; h = h; x = x; y = y }
+abbrev pub part_of : (p w h x y : ℕ) → Part
+part_of p w h x y = record { p = p; w = w; h = h; x = x; y = y }
 
 -- the whole buffer, or the picture in it
 abbrev pub area_of : Bool → (stride pad w h x y : ℕ) → Part
-area_of true stride pad w h x y = part 0 (w + 2 * pad) (h + 2 * pad) (x + pad) (y + pad)
-area_of false stride pad w h x y = part (pad * stride + pad) w h x y
+area_of true stride pad w h x y = part_of 0 (w + 2 * pad) (h + 2 * pad) (x + pad) (y + pad)
+area_of false stride pad w h x y = part_of (pad * stride + pad) w h x y

@@ -4,7 +4,7 @@
 ghost use Rattle.std.specs.Prelude.{◌≡◌, true, ◌+◌, ◌*◌, ◌/◌, ◌^◌, ◌≤◌, ◌<◌, length};
 ghost use Rattle.std.proofs.Math.IntN.{sub_ℕ};
 ghost use Rattle.grid.specs.Block.{drawn};
-ghost use Rattle.window.specs.Area.{passes, part, area_of};
+ghost use Rattle.window.specs.Area.{passes, part_of, area_of};
 ghost use Rattle.window.specs.Padded.{in_reach, padded_luma, padded_chroma};
 
 use margins::Geometry;
@@ -73,7 +73,7 @@ fn look<'a, const STEPS: usize>(
     requires { whole ≡ true → (aim.x + plane.g.pad < 2 ^ 31) × (aim.y + plane.g.pad < 2 ^ 31) }
     ensures source { (result.area.samples.now ≡ plane.entry.samples.now) × (result.area.stride ≡ plane.entry.g.stride) }
     ensures block { (result.aim.fx ≡ aim.entry.fx) × (result.aim.fy ≡ aim.entry.fy) × (result.aim.w ≡ aim.entry.w) × (result.aim.h ≡ aim.entry.h) }
-    ensures place { part result.area.at result.area.w result.area.h result.aim.x result.aim.y ≡ area_of whole plane.entry.g.stride plane.entry.g.pad plane.entry.g.pw plane.entry.g.ph aim.entry.x aim.entry.y }
+    ensures place { part_of result.area.at result.area.w result.area.h result.aim.x result.aim.y ≡ area_of whole plane.entry.g.stride plane.entry.g.pad plane.entry.g.pw plane.entry.g.ph aim.entry.x aim.entry.y }
 {
     let Geometry {
         stride,
