@@ -5,7 +5,7 @@ use Rattle.std.proofs.lemmas.List.{length-take}
 use Rattle.samples.specs.Bilinear.{chroma_sample}
 use Rattle.route.specs.Laws.{chroma_at_full}
 use Rattle.route.proofs.Inside.{full}
-use Rattle.window.proofs.Bridge.{small, block_in, chroma_seen}
+use Rattle.window.proofs.Bridge.{block_in, chroma_seen}
 use Rattle.window.proofs.chroma_pair.Goals as goal
 
 pub locate_known-spot-requires : goal.locate_known-spot-requires
@@ -20,7 +20,7 @@ pub invariant_of-in_v-clause-inside : goal.invariant_of-in_v-clause-inside
 invariant_of-in_v-clause-inside c =
     let seen = c.look-seen.ensures.source in
     let longer : length c.look-seen.result.area.samples.now ≤ length c.args.v.samples.now =
-        omega (arith, ap (λ (l : List ℕ). length l) seen.0, length-take c.min-len.result c.args.u.samples.now, c.min-len.ensures) in
+    omega (arith, ap (λ (l : List ℕ). length l) seen.0, length-take c.min-len.result c.args.u.samples.now, c.min-len.ensures) in
     omega (arith, longer, c.look-seen.result.area.inside)
 
 pub returns-then-aim-eq0 : goal.returns-then-aim-eq0

@@ -1,5 +1,5 @@
 -- The law of the test.
-use Rattle.std.proofs.Common.{◌≡◌, ℕ, ◌+◌, ◌&&◌, leb, sym, ap, ◌∙◌}
+use Rattle.std.proofs.Common.{ℕ, ◌+◌, ◌&&◌, leb, sym, ap, ◌∙◌}
 use Rattle.window.proofs.Tests.{in_reach_is}
 use Rattle.window.proofs.in_reach.Goals as goal
 
