@@ -1,8 +1,8 @@
 -- A window that lies inside its area is read where it lies; a tile reads as the windows of its block. Assumes nothing.
-use mathlib.Core.Path.{◌≡◌, sym, ap, ap₂, ◌∙◌}
+use mathlib.Core.Path.{◌≡◌, refl, sym, ap, ap₂, ◌∙◌}
 use mathlib.Core.List.{List}
 use Prim.Native.Nat.{ℕ, ◌+◌, ◌*◌, ◌-◌, ◌^◌, ◌≤◌, ◌<◌}
-use native.Mathlib.Nat.{mul-le-mul_right, add-zero}
+use native.Mathlib.Nat.{mul-le-mul_right}
 use native.Mathlib.Omega.{arith}
 use lib.ListN.{get_or}
 use Rattle.grid.specs.Block.{drawn}
@@ -11,8 +11,8 @@ use Rattle.place.specs.Near.{near, near_area}
 use Rattle.samples.specs.Phase.{luma_sample}
 use Rattle.samples.specs.Bilinear.{chroma_sample}
 use Rattle.samples.specs.Kernel.{window_at}
-use Rattle.samples.proofs.Reach.{luma_six, luma_full, chroma_four, chroma_full}
-use Rattle.route.specs.Area.{luma_near, chroma_near, Lies}
+use Rattle.route.specs.Area.{near_by, luma_near, chroma_near, Lies}
+use Rattle.route.specs.Laws.{Sample, ReadsWithin, AtFull}
 
 -- the last row of a window that ends inside starts no later than the area's last row
 pub rows_in : (j e h s : ℕ) → 0 < e → j + e ≤ h → j * s + (e - 1) * s ≤ (h - 1) * s
@@ -75,48 +75,35 @@ place_windows src {p = p} {stride = stride} {w = w} {h = h} {x = x} {y = y} {bas
     let k : y + (r + j) ≡ y + r + j = omega arith in
     sym (in_place src l (c + i) (r + j) a b) ∙ ap₂ (near_area src p stride w h base) g k
 
--- a place two up is column 2 and row 2 of its window
-two_up : (b n at : ℕ) → near b n at ≡ near (b + 2) n (at + 2)
-two_up b n at = omega arith
+-- a place k up is column k and row k of its window
+up : (k b n at : ℕ) → near b n at ≡ near (b + k) n (at + k)
+up k b n at = omega arith
 
 -- A BLOCK of each way to read: of full samples, out of windows that lie inside, out of the windows of a tile
+module _ (sample : Sample) (out src : List ℕ) (p stride w h base x y fx fy bw bh : ℕ) where
+  pub full : (before : ℕ) → AtFull sample before → fx + fy ≡ 0
+      → drawn out bw bh (λ c r. near_area src p stride w h base (x + c) (y + r)) ≡ drawn out bw bh (near_by sample src p stride w h (base + before) x y fx fy)
+  unfolding near_area
+  full before law e =
+      drawn_ext out bw bh _ _ (λ c r _ _.
+      ap₂ (λ (u v : ℕ). get_or src (p + v * stride + u) 0) (up before base w (x + c)) (up before base h (y + r))
+      ∙ sym (law fx fy (λ i j. near_area src p stride w h (base + before) (x + c + i) (y + r + j)) e))
+
+  module _ (around : ℕ) (reads : ReadsWithin sample around) where
+    pub placed : {len lanes at : ℕ} → Lies len p stride w h x y base (bw + around) (bh + around) lanes at
+        → drawn out bw bh (λ c r. sample fx fy (window_at src at stride c r)) ≡ drawn out bw bh (near_by sample src p stride w h base x y fx fy)
+    placed l = drawn_ext out bw bh _ _ (λ c r a b. reads fx fy _ _ (λ i j k m. place_windows src l c r i j (omega arith) (omega arith)))
+
+    pub tiled : {t : List ℕ} (t₀ : List ℕ) → t ≡ drawn t₀ (bw + around) (bh + around) (λ i j. near_area src p stride w h base (x + i) (y + j))
+        → drawn out bw bh (λ c r. sample fx fy (window_at t 0 (bw + around) c r)) ≡ drawn out bw bh (near_by sample src p stride w h base x y fx fy)
+    tiled t₀ e = drawn_ext out bw bh _ _ (λ c r a b. reads fx fy _ _ (λ i j k m. in_tile src t₀ p stride w h x y base (bw + around) (bh + around) e c r i j (omega arith) (omega arith)))
+
+-- of luma and of chroma
 module _ (out src : List ℕ) (p stride w h x y fx fy bw bh : ℕ) where
-  pub full_luma : fx + fy ≡ 0 → drawn out bw bh (λ c r. near_area src p stride w h (2 ^ 29) (x + c) (y + r)) ≡ drawn out bw bh (luma_near src p stride w h x y fx fy)
-  unfolding luma_near near_area
-  full_luma e =
-      let ex : 0 ≡ fx = omega arith in
-      let ey : 0 ≡ fy = omega arith in
-      drawn_ext out bw bh _ _ (λ c r _ _.
-      ap₂ (λ (u v : ℕ). get_or src (p + v * stride + u) 0) (two_up (2 ^ 29) w (x + c)) (two_up (2 ^ 29) h (y + r))
-      ∙ sym (luma_full 255 (λ i j. near_area src p stride w h (2 ^ 29 + 2) (x + c + i) (y + r + j)))
-      ∙ ap₂ (λ (u v : ℕ). luma_sample 255 u v (λ i j. near_area src p stride w h (2 ^ 29 + 2) (x + c + i) (y + r + j))) ex ey)
-
-  pub placed_luma : {len lanes at : ℕ} → Lies len p stride w h x y (2 ^ 29 + 2) (bw + 5) (bh + 5) lanes at
-      → drawn out bw bh (λ c r. luma_sample 255 fx fy (window_at src at stride c r)) ≡ drawn out bw bh (luma_near src p stride w h x y fx fy)
+  pub luma_is : drawn out bw bh (near_by (luma_sample 255) src p stride w h (2 ^ 29 + 2) x y fx fy) ≡ drawn out bw bh (luma_near src p stride w h x y fx fy)
   unfolding luma_near
-  placed_luma l = drawn_ext out bw bh _ _ (λ c r a b. luma_six 255 _ _ (λ i j k m. place_windows src l c r i j (omega arith) (omega arith)) fx fy)
+  luma_is = refl
 
-  pub tiled_luma : {t : List ℕ} (t₀ : List ℕ) → t ≡ drawn t₀ (bw + 5) (bh + 5) (λ i j. near_area src p stride w h (2 ^ 29 + 2) (x + i) (y + j))
-      → drawn out bw bh (λ c r. luma_sample 255 fx fy (window_at t 0 (bw + 5) c r)) ≡ drawn out bw bh (luma_near src p stride w h x y fx fy)
-  unfolding luma_near
-  tiled_luma t₀ e = drawn_ext out bw bh _ _ (λ c r a b. luma_six 255 _ _ (λ i j k m. in_tile src t₀ p stride w h x y _ (bw + 5) (bh + 5) e c r i j (omega arith) (omega arith)) fx fy)
-
-  pub full_chroma : fx + fy ≡ 0 → drawn out bw bh (λ c r. near_area src p stride w h (2 ^ 28) (x + c) (y + r)) ≡ drawn out bw bh (chroma_near src p stride w h x y fx fy)
+  pub chroma_is : drawn out bw bh (near_by chroma_sample src p stride w h (2 ^ 28) x y fx fy) ≡ drawn out bw bh (chroma_near src p stride w h x y fx fy)
   unfolding chroma_near
-  full_chroma e =
-      let ex : 0 ≡ fx = omega arith in
-      let ey : 0 ≡ fy = omega arith in
-      drawn_ext out bw bh _ _ (λ c r _ _.
-      ap₂ (near_area src p stride w h (2 ^ 28)) (sym (add-zero (x + c))) (sym (add-zero (y + r)))
-      ∙ sym (chroma_full (λ i j. near_area src p stride w h (2 ^ 28) (x + c + i) (y + r + j)))
-      ∙ ap₂ (λ (u v : ℕ). chroma_sample u v (λ i j. near_area src p stride w h (2 ^ 28) (x + c + i) (y + r + j))) ex ey)
-
-  pub placed_chroma : {len lanes at : ℕ} → Lies len p stride w h x y (2 ^ 28) (bw + 1) (bh + 1) lanes at
-      → drawn out bw bh (λ c r. chroma_sample fx fy (window_at src at stride c r)) ≡ drawn out bw bh (chroma_near src p stride w h x y fx fy)
-  unfolding chroma_near
-  placed_chroma l = drawn_ext out bw bh _ _ (λ c r a b. chroma_four fx fy _ _ (λ i j k m. place_windows src l c r i j (omega arith) (omega arith)))
-
-  pub tiled_chroma : {t : List ℕ} (t₀ : List ℕ) → t ≡ drawn t₀ (bw + 1) (bh + 1) (λ i j. near_area src p stride w h (2 ^ 28) (x + i) (y + j))
-      → drawn out bw bh (λ c r. chroma_sample fx fy (window_at t 0 (bw + 1) c r)) ≡ drawn out bw bh (chroma_near src p stride w h x y fx fy)
-  unfolding chroma_near
-  tiled_chroma t₀ e = drawn_ext out bw bh _ _ (λ c r a b. chroma_four fx fy _ _ (λ i j k m. in_tile src t₀ p stride w h x y _ (bw + 1) (bh + 1) e c r i j (omega arith) (omega arith)))
+  chroma_is = refl

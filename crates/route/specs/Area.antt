@@ -5,7 +5,11 @@ use Rattle.place.specs.Near.{near_area}
 use Rattle.samples.specs.Phase.{luma_sample}
 use Rattle.samples.specs.Bilinear.{chroma_sample}
 
--- the sample in column c and row r of the block at (x, y), kept 2^29 up for luma and 2^28 up for chroma
+-- the sample in column c and row r of the block at (x, y), by the sample of a phase out of those around it, whose window's places are kept `base` up
+abbrev pub near_by : (sample : ℕ → ℕ → (ℕ → ℕ → ℕ) → ℕ) (src : List ℕ) (p stride w h base x y fx fy c r : ℕ) → ℕ
+near_by sample src p stride w h base x y fx fy c r = sample fx fy (λ i j. near_area src p stride w h base (x + c + i) (y + r + j))
+
+-- the same of luma and of chroma, 2^29 up for luma and 2^28 up for chroma
 unfoldable pub luma_near : (src : List ℕ) (p stride w h x y fx fy c r : ℕ) → ℕ
 luma_near src p stride w h x y fx fy c r =
     luma_sample 255 fx fy (λ i j. near_area src p stride w h (2 ^ 29 + 2) (x + c + i) (y + r + j))

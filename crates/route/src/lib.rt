@@ -5,11 +5,14 @@ ghost use Rattle.std.specs.Prelude.{◌≡◌, true, ◌+◌, ◌*◌, ◌-◌, 
 ghost use Rattle.grid.specs.Block.{drawn};
 ghost use Rattle.place.specs.Near.{near_area};
 ghost use Rattle.kernels.specs.Width.{copied};
-ghost use Rattle.route.specs.Area.{luma_near, chroma_near, Lies};
+ghost use Rattle.route.specs.Area.{near_by, Lies};
 
-use kernels::{full, predict};
+use crate::component::Component;
+use kernels::full;
 use place::area::{Aim, Area};
 use place::{coords, tiles};
+
+pub mod component;
 
 // Where a block starts with `around` samples more on each axis, `before` of them before it, if they lie inside the area.
 fn spot_in<const STEPS: usize>(
@@ -98,125 +101,93 @@ fn predict_full<const STEPS: usize>(area: Area, aim: Aim<STEPS>, out: &mut [u8])
     full_from(locate_full(area, aim), area, aim, out);
 }
 
-// Where the window of a luma block starts, if it can be read there.
-pub fn locate_luma(area: Area, aim: Aim<4>) -> Option<usize>
-    ensures { IfSome result (λ at. Lies (length area.entry.samples.now) area.entry.at area.entry.stride area.entry.w area.entry.h aim.x aim.y (2 ^ 29 + 2) (aim.w + 5) (aim.h + 5) 21 at) }
+// Where the window of a block starts, if it can be read there.
+pub fn locate_window<C: Component<STEPS, TILE>, const STEPS: usize, const TILE: usize>(
+    area: Area,
+    aim: Aim<STEPS>,
+) -> Option<usize>
+    ensures { IfSome result (λ at. Lies (length area.entry.samples.now) area.entry.at area.entry.stride area.entry.w area.entry.h aim.entry.x aim.entry.y (2 ^ 31 / STEPS + C.BEFORE) (aim.entry.w + C.AROUND) (aim.entry.h + C.AROUND) C.LANES at) }
 {
-    locate(area, aim, 2, 5, 21)
+    locate(area, aim, C::BEFORE, C::AROUND, C::LANES)
 }
 
-// The luma block of a phase other than (0, 0) by way of its clamped tile.
-fn luma_tiled(tile: &mut [u8], area: Area, aim: Aim<4>, out: &mut [u8])
-    requires { (441 ≤ length tile.old) × (1 ≤ aim.fx + aim.fy) × (aim.w * aim.h ≤ length out.old) }
-    ensures { out.new ≡ drawn out.old aim.w aim.h (luma_near area.entry.samples.now area.entry.at area.entry.stride area.entry.w area.entry.h aim.x aim.y aim.fx aim.fy) }
+// The block of a phase other than (0, 0) by way of its clamped tile.
+fn tiled<C: Component<STEPS, TILE>, const STEPS: usize, const TILE: usize>(
+    tile: &mut [u8],
+    area: Area,
+    aim: Aim<STEPS>,
+    out: &mut [u8],
+)
+    requires { (TILE ≤ length tile.old) × (1 ≤ aim.fx + aim.fy) × (aim.w * aim.h ≤ length out.old) }
+    ensures { out.new ≡ drawn out.old aim.entry.w aim.entry.h (near_by C.sample area.entry.samples.now area.entry.at area.entry.stride area.entry.w area.entry.h (2 ^ 31 / STEPS + C.BEFORE) aim.entry.x aim.entry.y aim.entry.fx aim.entry.fy) }
 {
-    tiles::tile_into(tile, area, aim, 2, 5);
-    predict::luma_block(tile, 0, aim.w + 5, aim.fx, aim.fy, aim.w, aim.h, out);
+    tiles::tile_into(tile, area, aim, C::BEFORE, C::AROUND);
+    C::block(tile, 0, aim.w + C::AROUND, aim, out);
 }
 
 // The same with a tile of its own, in a function of its own: where the block is read in place, nothing pays for the tile.
-fn luma_by_tile(area: Area, aim: Aim<4>, out: &mut [u8])
+fn by_tile<C: Component<STEPS, TILE>, const STEPS: usize, const TILE: usize>(
+    area: Area,
+    aim: Aim<STEPS>,
+    out: &mut [u8],
+)
     requires { (1 ≤ aim.fx + aim.fy) × (aim.w * aim.h ≤ length out.old) }
-    ensures { out.new ≡ drawn out.old aim.w aim.h (luma_near area.entry.samples.now area.entry.at area.entry.stride area.entry.w area.entry.h aim.x aim.y aim.fx aim.fy) }
+    ensures { out.new ≡ drawn out.old aim.entry.w aim.entry.h (near_by C.sample area.entry.samples.now area.entry.at area.entry.stride area.entry.w area.entry.h (2 ^ 31 / STEPS + C.BEFORE) aim.entry.x aim.entry.y aim.entry.fx aim.entry.fy) }
 {
-    let mut tile = [0u8; 441];
-    luma_tiled(&mut tile, area, aim, out);
+    let mut tile = [0u8; TILE];
+    tiled::<C, STEPS, TILE>(&mut tile, area, aim, out);
 }
 
-// The luma block of any phase.
-pub fn predict_luma(area: Area, aim: Aim<4>, out: &mut [u8])
+// The block of a phase other than (0, 0), whose window was located at the spot.
+pub fn predict_from<C: Component<STEPS, TILE>, const STEPS: usize, const TILE: usize>(
+    spot: Option<usize>,
+    area: Area,
+    aim: Aim<STEPS>,
+    out: &mut [u8],
+)
+    requires { (1 ≤ aim.fx + aim.fy) × (aim.w * aim.h ≤ length out.old)
+        × IfSome spot (λ at. Lies (length area.samples.now) area.at area.stride area.w area.h aim.x aim.y (2 ^ 31 / STEPS + C.BEFORE) (aim.w + C.AROUND) (aim.h + C.AROUND) C.LANES at) }
+    ensures { out.new ≡ drawn out.old aim.entry.w aim.entry.h (near_by C.sample area.entry.samples.now area.entry.at area.entry.stride area.entry.w area.entry.h (2 ^ 31 / STEPS + C.BEFORE) aim.entry.x aim.entry.y aim.entry.fx aim.entry.fy) }
+{
+    match spot {
+        Some(at) => C::block(area.samples, at, area.stride, aim, out),
+        None => by_tile::<C, STEPS, TILE>(area, aim, out),
+    }
+}
+
+// The block of any phase.
+pub fn predict<C: Component<STEPS, TILE>, const STEPS: usize, const TILE: usize>(
+    area: Area,
+    aim: Aim<STEPS>,
+    out: &mut [u8],
+)
     requires { aim.w * aim.h ≤ length out.old }
-    ensures { out.new ≡ drawn out.old aim.w aim.h (luma_near area.entry.samples.now area.entry.at area.entry.stride area.entry.w area.entry.h aim.x aim.y aim.fx aim.fy) }
+    ensures { out.new ≡ drawn out.old aim.entry.w aim.entry.h (near_by C.sample area.entry.samples.now area.entry.at area.entry.stride area.entry.w area.entry.h (2 ^ 31 / STEPS + C.BEFORE) aim.entry.x aim.entry.y aim.entry.fx aim.entry.fy) }
 {
     if aim.fx + aim.fy == 0 {
         predict_full(area, aim, out);
         return;
     }
-    match locate_luma(area, aim) {
-        Some(at) => predict::luma_block(
-            area.samples,
-            at,
-            area.stride,
-            aim.fx,
-            aim.fy,
-            aim.w,
-            aim.h,
-            out,
-        ),
-        None => luma_by_tile(area, aim, out),
-    }
+    let spot = locate_window::<C, STEPS, TILE>(area, aim);
+    predict_from::<C, STEPS, TILE>(spot, area, aim, out);
 }
 
 // The same with the tile in a lent slice.
-pub fn predict_luma_with(tile: &mut [u8], area: Area, aim: Aim<4>, out: &mut [u8])
-    requires { (441 ≤ length tile.old) × (aim.w * aim.h ≤ length out.old) }
-    ensures { out.new ≡ drawn out.old aim.w aim.h (luma_near area.entry.samples.now area.entry.at area.entry.stride area.entry.w area.entry.h aim.x aim.y aim.fx aim.fy) }
+pub fn predict_with<C: Component<STEPS, TILE>, const STEPS: usize, const TILE: usize>(
+    tile: &mut [u8],
+    area: Area,
+    aim: Aim<STEPS>,
+    out: &mut [u8],
+)
+    requires { (TILE ≤ length tile.old) × (aim.w * aim.h ≤ length out.old) }
+    ensures { out.new ≡ drawn out.old aim.entry.w aim.entry.h (near_by C.sample area.entry.samples.now area.entry.at area.entry.stride area.entry.w area.entry.h (2 ^ 31 / STEPS + C.BEFORE) aim.entry.x aim.entry.y aim.entry.fx aim.entry.fy) }
 {
     if aim.fx + aim.fy == 0 {
         predict_full(area, aim, out);
         return;
     }
-    match locate_luma(area, aim) {
-        Some(at) => predict::luma_block(
-            area.samples,
-            at,
-            area.stride,
-            aim.fx,
-            aim.fy,
-            aim.w,
-            aim.h,
-            out,
-        ),
-        None => luma_tiled(tile, area, aim, out),
+    match locate_window::<C, STEPS, TILE>(area, aim) {
+        Some(at) => C::block(area.samples, at, area.stride, aim, out),
+        None => tiled::<C, STEPS, TILE>(tile, area, aim, out),
     }
-}
-
-// Where the window of a chroma block starts, if it can be read there.
-pub fn locate_chroma(area: Area, aim: Aim<8>) -> Option<usize>
-    ensures { IfSome result (λ at. Lies (length area.entry.samples.now) area.entry.at area.entry.stride area.entry.w area.entry.h aim.x aim.y (2 ^ 28) (aim.w + 1) (aim.h + 1) 9 at) }
-{
-    locate(area, aim, 0, 1, 9)
-}
-
-// The chroma block by way of its clamped tile.
-fn chroma_by_tile(area: Area, aim: Aim<8>, out: &mut [u8])
-    requires { aim.w * aim.h ≤ length out.old }
-    ensures { out.new ≡ drawn out.old aim.w aim.h (chroma_near area.entry.samples.now area.entry.at area.entry.stride area.entry.w area.entry.h aim.x aim.y aim.fx aim.fy) }
-{
-    let mut tile = [0u8; 81];
-    tiles::tile_into(&mut tile, area, aim, 0, 1);
-    bilinear::chroma_block(&tile, 0, aim.w + 1, aim.fx, aim.fy, aim.w, aim.h, out);
-}
-
-// The chroma block, whose window was located at the spot.
-pub fn chroma_from(spot: Option<usize>, area: Area, aim: Aim<8>, out: &mut [u8])
-    requires { (aim.w * aim.h ≤ length out.old)
-        × IfSome spot (λ at. Lies (length area.samples.now) area.at area.stride area.w area.h aim.x aim.y (2 ^ 28) (aim.w + 1) (aim.h + 1) 9 at) }
-    ensures { out.new ≡ drawn out.old aim.w aim.h (chroma_near area.entry.samples.now area.entry.at area.entry.stride area.entry.w area.entry.h aim.x aim.y aim.fx aim.fy) }
-{
-    match spot {
-        Some(at) => bilinear::chroma_block(
-            area.samples,
-            at,
-            area.stride,
-            aim.fx,
-            aim.fy,
-            aim.w,
-            aim.h,
-            out,
-        ),
-        None => chroma_by_tile(area, aim, out),
-    }
-}
-
-// The chroma block of any phase.
-pub fn predict_chroma(area: Area, aim: Aim<8>, out: &mut [u8])
-    requires { aim.w * aim.h ≤ length out.old }
-    ensures { out.new ≡ drawn out.old aim.w aim.h (chroma_near area.entry.samples.now area.entry.at area.entry.stride area.entry.w area.entry.h aim.x aim.y aim.fx aim.fy) }
-{
-    if aim.fx + aim.fy == 0 {
-        predict_full(area, aim, out);
-        return;
-    }
-    chroma_from(locate_chroma(area, aim), area, aim, out);
 }

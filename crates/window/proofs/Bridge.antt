@@ -18,9 +18,11 @@ use Rattle.place.specs.Near.{near, near_area}
 use Rattle.place.proofs.CoordLaws.{diff_negsuc, clamp_sub, luma_up, chroma_up}
 use Rattle.samples.proofs.Reach.{both, luma_six, chroma_four}
 use Rattle.margins.specs.Margin.{interior}
-use Rattle.route.specs.Area.{luma_near, chroma_near}
-use Rattle.window.specs.declared.Area.{Area}
-use Rattle.window.specs.Area.{passes, area_of}
+use Rattle.samples.specs.Phase.{luma_sample}
+use Rattle.samples.specs.Bilinear.{chroma_sample}
+use Rattle.route.specs.Area.{near_by, luma_near, chroma_near}
+use Rattle.route.proofs.Inside.{luma_is, chroma_is}
+use Rattle.window.specs.Area.{passes, Part, part_of, area_of}
 use Rattle.window.specs.Padded.{in_reach, luma_direct, chroma_direct, column, read_at, padded_luma, padded_chroma}
 use Rattle.window.proofs.Tests.{to_diff, reached}
 
@@ -40,9 +42,17 @@ pub in_both : (before behind base x y bw bh w h pad : ℕ) → passes before beh
 in_both before behind base x y bw bh w h pad e =
     let b = both (in_reach before behind (sub_ℕ x base) bw w pad) (in_reach before behind (sub_ℕ y base) bh h pad) e in (reached before behind x base bw w pad b.0, reached before behind y base bh h pad b.1)
 
--- THE AREA lies in the buffer, and the place in it is small
-abbrev pub Inside : (h pad stride : ℕ) → Area → Type 0
-Inside h pad stride a = (0 < a.w) × (0 < a.h) × (a.p + (a.h - 1) * stride + a.w ≤ stride * (h + 2 * pad)) × (a.x < 2 ^ 31) × (a.y < 2 ^ 31)
+-- THE AREA lies in the buffer: the whole of it, and the picture in it
+pub whole_in : (stride pad w h len : ℕ) → 1 ≤ h → w + 2 * pad ≤ stride → stride * (h + 2 * pad) ≤ len → 0 + (h + 2 * pad - 1) * stride + (w + 2 * pad) ≤ len
+whole_in stride pad w h len a b c = let n : h + 2 * pad - 1 + 1 ≤ h + 2 * pad = omega arith in omega (arith, mul-le-mul_right stride n)
+
+pub picture_in : (stride pad w h len : ℕ) → 1 ≤ h → w + 2 * pad ≤ stride → stride * (h + 2 * pad) ≤ len → pad * stride + pad + (h - 1) * stride + w ≤ len
+picture_in stride pad w h len a b c = let n : pad + (h - 1) + 1 ≤ h + 2 * pad = omega arith in omega (arith, mul-le-mul_right stride n)
+
+-- and where the test held, the place in it is small
+pub small : (before behind base x y bw bh w h pad : ℕ) → (w ≤ 8192) × (h ≤ 8192) × (pad ≤ 128) × (base < 2 ^ 30) → {d : Bool} → d ≡ passes before behind base x y bw bh w h pad → d ≡ true
+    → (x + pad < 2 ^ 31) × (y + pad < 2 ^ 31)
+small before behind base x y bw bh w h pad b e f = let t = in_both before behind base x y bw bh w h pad (sym e ∙ f) in omega arith
 
 module _ (before behind base x y bw bh w h pad : ℕ) where
   abbrev passed : Bool
@@ -58,31 +68,19 @@ module _ (before behind base x y bw bh w h pad : ℕ) where
       → near (base + before) (n + 2 * pad) (z + pad + c + i) ≡ z + c + i + pad - (base + before)
   near_in n z pad b c i p q k l = omega arith
 
-  module _ (stride : ℕ) {d : Bool} {a : Area} (tested : d ≡ passed) (made : a ≡ area_of d stride pad w h x y) where
+  module _ (stride : ℕ) {d : Bool} {a : Part} (tested : d ≡ passed) (made : a ≡ area_of d stride pad w h x y) where
     is : a ≡ area_of passed stride pad w h x y
     is = made ∙ ap (λ (t : Bool). area_of t stride pad w h x y) tested
 
     -- where the test held, the block lies inside the whole buffer
     pub block_in : d ≡ true → (base ≤ a.x) × (a.x - base + bw ≤ a.w) × (base ≤ a.y) × (a.y - base + bh ≤ a.h)
     block_in e =
-        subst (λ (k : Area). (base ≤ k.x) × (k.x - base + bw ≤ k.w) × (base ≤ k.y) × (k.y - base + bh ≤ k.h)) (sym (made ∙ ap (λ (t : Bool). area_of t stride pad w h x y) e))
+        subst (λ (k : Part). (base ≤ k.x) × (k.x - base + bw ≤ k.w) × (base ≤ k.y) × (k.y - base + bh ≤ k.h)) (sym (made ∙ ap (λ (t : Bool). area_of t stride pad w h x y) e))
         (omega (arith, in_both before behind base x y bw bh w h pad (sym tested ∙ e)))
-
-    pub area_in : (1 ≤ w) × (w ≤ 8192) × (1 ≤ h) × (h ≤ 8192) × (pad ≤ 128) × (w + 2 * pad ≤ stride) × (base < 2 ^ 30) × (x < 2 ^ 31) × (y < 2 ^ 31) → Inside h pad stride a
-    area_in s = subst (Inside h pad stride) (sym is) (by passed refl)
-      where
-        by : (d : Bool) → passed ≡ d → Inside h pad stride (area_of d stride pad w h x y)
-        by true e =
-            let t = in_both before behind base x y bw bh w h pad e in
-            let n : h + 2 * pad - 1 + 1 ≤ h + 2 * pad = omega (arith, s) in
-            omega (arith, s, t, mul-le-mul_right stride n)
-        by false e =
-            let n : pad + (h - 1) + 1 ≤ h + 2 * pad = omega (arith, s) in
-            omega (arith, s, mul-le-mul_right stride n)
 
     -- READING, of the definition's test and places
     module _ (buf : List ℕ) (c r i j : ℕ) (cb : c < bw) (rb : r < bh) (ib : i < before + 1 + behind) (jb : j < before + 1 + behind) where
-      abbrev way : Area → ℕ
+      abbrev way : Part → ℕ
       way a = near_area buf a.p stride a.w a.h (base + before) (a.x + c + i) (a.y + r + j)
 
       abbrev rule : Bool → ℕ
@@ -120,7 +118,7 @@ luma_place_lem x0 mv x f e c = luma_up x0 mv c f ∙ ap (λ (k : ℕ). diff (k +
 chroma_place_lem : (x0 : ℕ) (mv : ℤ) (x : ℕ) → mag mv < 2 ^ 31 → x ≡ x0 + up (2 ^ 31) mv / 8 → (c : ℕ) → chroma_place x0 mv c ≡ diff (x + c) (2 ^ 28)
 chroma_place_lem x0 mv x f e c = chroma_up x0 mv c f ∙ ap (λ (k : ℕ). diff (k + c) (2 ^ 28)) (sym e)
 
-module _ (out buf : List ℕ) (stride pad w h x0 y0 bw bh : ℕ) (mvx mvy : ℤ) (p : mag mvx < 2 ^ 31) (q : mag mvy < 2 ^ 31) {x y fx fy : ℕ} {d : Bool} {a : Area} where
+module _ (out buf : List ℕ) (stride pad w h x0 y0 bw bh : ℕ) (mvx mvy : ℤ) (p : mag mvx < 2 ^ 31) (q : mag mvy < 2 ^ 31) {x y fx fy : ℕ} {d : Bool} {a : Part} where
   pub luma_drawn : x ≡ x0 + up (2 ^ 31) mvx / 4 → y ≡ y0 + up (2 ^ 31) mvy / 4 → fx ≡ phase mvx 4 → fy ≡ phase mvy 4
       → d ≡ passes 2 3 (2 ^ 29) x y bw bh w h pad → a ≡ area_of d stride pad w h x y
       → drawn out bw bh (luma_near buf a.p stride a.w a.h a.x a.y fx fy) ≡ drawn out bw bh (padded_luma buf stride pad w h x0 y0 bw bh mvx mvy)
@@ -144,3 +142,24 @@ module _ (out buf : List ℕ) (stride pad w h x0 y0 bw bh : ℕ) (mvx mvy : ℤ)
       rw (efx, efy) (chroma_four (phase mvx 8) (phase mvy 8) _ _ (λ i j k l.
       read_at_lem 0 1 (2 ^ 28) x y bw bh w h pad stride t e buf c r i j m n k l (passes_is 0 1 (2 ^ 28) x y bw bh w h pad (u 0) (v 0))
       (onward (x + c) (2 ^ 28) (u c) i) (onward (y + r) (2 ^ 28) (v r) j))))
+
+-- the same of what is seen of the buffer, by the code's names
+module _ (out buf : List ℕ) (stride pad w h x0 y0 bw bh : ℕ) (mvx mvy : ℤ) (p : mag mvx < 2 ^ 31) (q : mag mvy < 2 ^ 31)
+    {buf₁ : List ℕ} {stride₁ at w₁ h₁ x₁ y₁ fx₁ fy₁ bw₁ bh₁ x y fx fy bw₀ bh₀ : ℕ} {d : Bool} where
+  pub luma_seen : (x ≡ x0 + up (2 ^ 31) mvx / 4) × (y ≡ y0 + up (2 ^ 31) mvy / 4) × (fx ≡ phase mvx 4) × (fy ≡ phase mvy 4) × (bw₀ ≡ bw) × (bh₀ ≡ bh)
+      → d ≡ passes 2 3 (2 ^ 29) x y bw₀ bh₀ w h pad → part_of at w₁ h₁ x₁ y₁ ≡ area_of d stride pad w h x y
+      → (buf₁ ≡ buf) × (stride₁ ≡ stride) → (fx₁ ≡ fx) × (fy₁ ≡ fy) × (bw₁ ≡ bw₀) × (bh₁ ≡ bh₀)
+      → drawn out bw₁ bh₁ (near_by (luma_sample 255) buf₁ at stride₁ w₁ h₁ (2 ^ 29 + 2) x₁ y₁ fx₁ fy₁) ≡ drawn out bw bh (padded_luma buf stride pad w h x0 y0 bw bh mvx mvy)
+  luma_seen a t e s k =
+      luma_is out buf₁ at stride₁ w₁ h₁ x₁ y₁ fx₁ fy₁ bw₁ bh₁
+      ∙ rw (s.0, s.1, k.0, k.1, k.2, k.3, a.4, a.5)
+      (luma_drawn out buf stride pad w h x0 y0 bw bh mvx mvy p q a.0 a.1 a.2 a.3 (rw (a.4, a.5) at t) e)
+
+  pub chroma_seen : (x ≡ x0 + up (2 ^ 31) mvx / 8) × (y ≡ y0 + up (2 ^ 31) mvy / 8) × (fx ≡ phase mvx 8) × (fy ≡ phase mvy 8) × (bw₀ ≡ bw) × (bh₀ ≡ bh)
+      → d ≡ passes 0 1 (2 ^ 28) x y bw₀ bh₀ w h pad → part_of at w₁ h₁ x₁ y₁ ≡ area_of d stride pad w h x y
+      → (buf₁ ≡ buf) × (stride₁ ≡ stride) → (fx₁ ≡ fx) × (fy₁ ≡ fy) × (bw₁ ≡ bw₀) × (bh₁ ≡ bh₀)
+      → drawn out bw₁ bh₁ (near_by chroma_sample buf₁ at stride₁ w₁ h₁ (2 ^ 28) x₁ y₁ fx₁ fy₁) ≡ drawn out bw bh (padded_chroma buf stride pad w h x0 y0 bw bh mvx mvy)
+  chroma_seen a t e s k =
+      chroma_is out buf₁ at stride₁ w₁ h₁ x₁ y₁ fx₁ fy₁ bw₁ bh₁
+      ∙ rw (s.0, s.1, k.0, k.1, k.2, k.3, a.4, a.5)
+      (chroma_drawn out buf stride pad w h x0 y0 bw bh mvx mvy p q a.0 a.1 a.2 a.3 (rw (a.4, a.5) at t) e)

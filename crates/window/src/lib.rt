@@ -1,297 +1,193 @@
 // Blocks of planes with margins, of which nothing is refused: read in place where the block's window lies inside picture plus margin, else from the interior, clamped.
 #![tactic(auto)]
 
-ghost use Rattle.std.specs.Prelude.{◌≡◌, ◌+◌, ◌*◌, ◌^◌, ◌≤◌, ◌<◌, min, length};
+ghost use Rattle.std.specs.Prelude.{◌≡◌, true, ◌+◌, ◌*◌, ◌/◌, ◌^◌, ◌≤◌, ◌<◌, length};
 ghost use Rattle.std.proofs.Math.IntN.{sub_ℕ};
 ghost use Rattle.grid.specs.Block.{drawn};
-ghost use Rattle.window.specs.Area.{passes, area_of};
+ghost use Rattle.window.specs.Area.{passes, part_of, area_of};
 ghost use Rattle.window.specs.Padded.{in_reach, padded_luma, padded_chroma};
 
 use margins::Geometry;
+use place::area::{Aim, Area};
 use place::coords;
+use route::component::{Chroma, Luma};
+use terms::block::Block;
 
-// On one axis, of a place that is kept `base` up: b samples, with those before and behind, lie inside n samples and their margins.
-fn in_reach(
+// A picture with margins in its buffer, of which nothing is refused.
+#[derive(Clone, Copy)]
+pub struct PaddedPlane<'a> {
+    pub samples: &'a [u8],
+    pub g: Geometry,
+    ghost wide: { (1 ≤ g.pw) × (g.pw ≤ 8192) },
+    ghost high: { (1 ≤ g.ph) × (g.ph ≤ 8192) },
+    ghost margin: { g.pad ≤ 128 },
+    ghost rows: { (g.pw + 2 * g.pad ≤ g.stride) × (g.stride ≤ 16384) },
+    ghost whole: { g.stride * (g.ph + 2 * g.pad) ≤ length samples.now },
+}
+
+// What is read of a plane, and where in it a block is read.
+#[derive(Clone, Copy)]
+struct Sight<'a, const STEPS: usize> {
+    area: Area<'a>,
+    aim: Aim<STEPS>,
+}
+
+// On one axis: b samples, with those before and behind, lie inside n samples and their margins.
+fn in_reach<const STEPS: usize>(
     at: usize,
-    base: usize,
-    before: usize,
-    behind: usize,
     b: usize,
     n: usize,
     pad: usize,
+    before: usize,
+    behind: usize,
 ) -> bool
-    requires { (at < 2 ^ 31) × (base < 2 ^ 30) × (before ≤ 2) × (behind ≤ 3) × (b ≤ 16) × (n ≤ 8192) × (pad ≤ 128) }
-    ensures { result ≡ in_reach before behind (sub_ℕ at base) b n pad }
+    requires { (0 < STEPS) × (at < 2 ^ 31) × (before ≤ 2) × (behind ≤ 3) × (b ≤ 16) × (n ≤ 8192) × (pad ≤ 128) }
+    ensures { result ≡ in_reach before behind (sub_ℕ at (2 ^ 31 / STEPS)) b n pad }
 {
+    let base = coords::base::<STEPS>();
     (base + before <= at + pad) & (at + b + behind <= n + pad + base)
 }
 
 // The one test for both axes.
-fn reaches(
-    g: Geometry,
-    base: usize,
+fn reaches<const STEPS: usize>(
+    plane: PaddedPlane,
+    aim: Aim<STEPS>,
     before: usize,
     behind: usize,
-    x: usize,
-    y: usize,
-    bw: usize,
-    bh: usize,
 ) -> bool
-    requires { (g.pw ≤ 8192) × (g.ph ≤ 8192) × (g.pad ≤ 128) × (base < 2 ^ 30) × (before ≤ 2) × (behind ≤ 3) × (x < 2 ^ 31) × (y < 2 ^ 31) × (bw ≤ 16) × (bh ≤ 16) }
-    ensures { result ≡ passes before behind base x y bw bh g.pw g.ph g.pad }
+    requires { (before ≤ 2) × (behind ≤ 3) }
+    ensures { result ≡ passes before behind (2 ^ 31 / STEPS) aim.entry.x aim.entry.y aim.entry.w aim.entry.h plane.entry.g.pw plane.entry.g.ph plane.entry.g.pad }
 {
-    let across = in_reach(x, base, before, behind, bw, g.pw, g.pad);
-    let down = in_reach(y, base, before, behind, bh, g.ph, g.pad);
+    let g = plane.g;
+    let across = in_reach::<STEPS>(aim.x, aim.w, g.pw, g.pad, before, behind);
+    let down = in_reach::<STEPS>(aim.y, aim.h, g.ph, g.pad, before, behind);
     across & down
 }
 
-// What is read of a plane with margins: where the area starts, its sides, and the block's place in it.
-#[derive(Clone, Copy)]
-pub struct Area {
-    pub p: usize,
-    pub w: usize,
-    pub h: usize,
-    pub x: usize,
-    pub y: usize,
-}
-
 // The whole buffer where the block's window lies inside picture plus margin, else the picture.
-fn area_of(whole: bool, g: Geometry, x: usize, y: usize) -> Area
-    requires { (g.pw ≤ 8192) × (g.ph ≤ 8192) × (g.pad ≤ 128) × (g.stride ≤ 16384) × (x < 2 ^ 31) × (y < 2 ^ 31) }
-    ensures { result ≡ area_of whole g.stride g.pad g.pw g.ph x y }
+fn look<'a, const STEPS: usize>(
+    whole: bool,
+    plane: PaddedPlane<'a>,
+    aim: Aim<STEPS>,
+) -> Sight<'a, STEPS>
+    requires { whole ≡ true → (aim.x + plane.g.pad < 2 ^ 31) × (aim.y + plane.g.pad < 2 ^ 31) }
+    ensures source { (result.area.samples.now ≡ plane.entry.samples.now) × (result.area.stride ≡ plane.entry.g.stride) }
+    ensures block { (result.aim.fx ≡ aim.entry.fx) × (result.aim.fy ≡ aim.entry.fy) × (result.aim.w ≡ aim.entry.w) × (result.aim.h ≡ aim.entry.h) }
+    ensures place { part_of result.area.at result.area.w result.area.h result.aim.x result.aim.y ≡ area_of whole plane.entry.g.stride plane.entry.g.pad plane.entry.g.pw plane.entry.g.ph aim.entry.x aim.entry.y }
 {
-    let stride = g.stride;
-    let pad = g.pad;
-    let w = g.pw;
-    let h = g.ph;
+    let Geometry {
+        stride,
+        pad,
+        pw,
+        ph,
+    } = plane.g;
     if whole {
-        return Area {
-            p: 0,
-            w: w + 2 * pad,
-            h: h + 2 * pad,
-            x: x + pad,
-            y: y + pad,
+        return Sight {
+            area: Area {
+                samples: plane.samples,
+                at: 0,
+                stride,
+                w: pw + 2 * pad,
+                h: ph + 2 * pad,
+            },
+            aim: Aim {
+                x: aim.x + pad,
+                y: aim.y + pad,
+                fx: aim.fx,
+                fy: aim.fy,
+                w: aim.w,
+                h: aim.h,
+            },
         };
     }
-    Area {
-        p: pad * stride + pad,
-        w: w,
-        h: h,
-        x: x,
-        y: y,
+    Sight {
+        area: Area {
+            samples: plane.samples,
+            at: pad * stride + pad,
+            stride,
+            w: pw,
+            h: ph,
+        },
+        aim,
     }
 }
 
 // A luma block of which nothing is refused.
-pub fn luma_block(
-    padded: &[u8],
-    g: Geometry,
-    x0: usize,
-    y0: usize,
-    bw: usize,
-    bh: usize,
-    mvx: i32,
-    mvy: i32,
-    out: &mut [u8],
-)
-    requires { (1 ≤ g.pw) × (g.pw ≤ 8192) × (1 ≤ g.ph) × (g.ph ≤ 8192) × (g.pad ≤ 128) × (g.pw + 2 * g.pad ≤ g.stride) × (g.stride ≤ 16384) × (g.stride * (g.ph + 2 * g.pad) ≤ length padded.now) × (x0 ≤ 65535) × (y0 ≤ 65535) × (1 ≤ bw) × (bw ≤ 16) × (1 ≤ bh) × (bh ≤ 16) × (bw * bh ≤ length out.old) }
-    ensures { out.new ≡ drawn out.old bw bh (padded_luma padded.now g.stride g.pad g.pw g.ph x0 y0 bw bh mvx mvy) }
+pub fn luma_block(plane: PaddedPlane, block: Block, out: &mut [u8])
+    requires { (block.x ≤ 65535) × (block.y ≤ 65535) × (1 ≤ block.w) × (block.w ≤ 16) × (1 ≤ block.h) × (block.h ≤ 16) × (block.w * block.h ≤ length out.old) }
+    ensures { out.new ≡ drawn out.old block.w block.h (padded_luma plane.entry.samples.now plane.entry.g.stride plane.entry.g.pad plane.entry.g.pw plane.entry.g.ph block.x block.y block.w block.h block.mv.x block.mv.y) }
 {
-    let x = coords::luma_at(x0, mvx);
-    let y = coords::luma_at(y0, mvy);
-    let fx = coords::luma_phase(mvx);
-    let fy = coords::luma_phase(mvy);
-    let whole = reaches(g, coords::LUMA_BASE, 2, 3, x, y, bw, bh);
-    let at = area_of(whole, g, x, y);
-    if fx + fy == 0 {
-        route::predict_full(
-            padded,
-            at.p,
-            g.stride,
-            at.w,
-            at.h,
-            at.x,
-            at.y,
-            coords::LUMA_BASE,
-            bw,
-            bh,
-            out,
-        );
-        return;
-    }
-    route::predict_luma(
-        padded, at.p, g.stride, at.w, at.h, at.x, at.y, fx, fy, bw, bh, out,
-    );
+    let aim = Aim::<4>::of(block);
+    let whole = reaches(plane, aim, 2, 3);
+    let seen = look(whole, plane, aim);
+    route::predict::<Luma, 4, 441>(seen.area, seen.aim, out);
 }
 
 // The same with the tile in lent scratch.
-pub fn luma_block_with(
-    tile: &mut [u8],
-    padded: &[u8],
-    g: Geometry,
-    x0: usize,
-    y0: usize,
-    bw: usize,
-    bh: usize,
-    mvx: i32,
-    mvy: i32,
-    out: &mut [u8],
-)
-    requires { (1 ≤ g.pw) × (g.pw ≤ 8192) × (1 ≤ g.ph) × (g.ph ≤ 8192) × (g.pad ≤ 128) × (g.pw + 2 * g.pad ≤ g.stride) × (g.stride ≤ 16384) × (g.stride * (g.ph + 2 * g.pad) ≤ length padded.now) × (x0 ≤ 65535) × (y0 ≤ 65535) × (1 ≤ bw) × (bw ≤ 16) × (1 ≤ bh) × (bh ≤ 16) × (bw * bh ≤ length out.old) × (441 ≤ length tile.old) }
-    ensures { out.new ≡ drawn out.old bw bh (padded_luma padded.now g.stride g.pad g.pw g.ph x0 y0 bw bh mvx mvy) }
+pub fn luma_block_with(tile: &mut [u8], plane: PaddedPlane, block: Block, out: &mut [u8])
+    requires { (block.x ≤ 65535) × (block.y ≤ 65535) × (1 ≤ block.w) × (block.w ≤ 16) × (1 ≤ block.h) × (block.h ≤ 16) × (block.w * block.h ≤ length out.old) × (441 ≤ length tile.old) }
+    ensures { out.new ≡ drawn out.old block.w block.h (padded_luma plane.entry.samples.now plane.entry.g.stride plane.entry.g.pad plane.entry.g.pw plane.entry.g.ph block.x block.y block.w block.h block.mv.x block.mv.y) }
 {
-    let x = coords::luma_at(x0, mvx);
-    let y = coords::luma_at(y0, mvy);
-    let fx = coords::luma_phase(mvx);
-    let fy = coords::luma_phase(mvy);
-    let whole = reaches(g, coords::LUMA_BASE, 2, 3, x, y, bw, bh);
-    let at = area_of(whole, g, x, y);
-    if fx + fy == 0 {
-        route::predict_full(
-            padded,
-            at.p,
-            g.stride,
-            at.w,
-            at.h,
-            at.x,
-            at.y,
-            coords::LUMA_BASE,
-            bw,
-            bh,
-            out,
-        );
-        return;
-    }
-    route::predict_luma_with(
-        tile, padded, at.p, g.stride, at.w, at.h, at.x, at.y, fx, fy, bw, bh, out,
-    );
+    let aim = Aim::<4>::of(block);
+    let whole = reaches(plane, aim, 2, 3);
+    let seen = look(whole, plane, aim);
+    route::predict_with::<Luma, 4, 441>(tile, seen.area, seen.aim, out);
 }
 
 // A chroma block of which nothing is refused.
-pub fn chroma_block(
-    padded: &[u8],
-    g: Geometry,
-    x0: usize,
-    y0: usize,
-    bw: usize,
-    bh: usize,
-    mvx: i32,
-    mvy: i32,
-    out: &mut [u8],
-)
-    requires { (1 ≤ g.pw) × (g.pw ≤ 8192) × (1 ≤ g.ph) × (g.ph ≤ 8192) × (g.pad ≤ 128) × (g.pw + 2 * g.pad ≤ g.stride) × (g.stride ≤ 16384) × (g.stride * (g.ph + 2 * g.pad) ≤ length padded.now) × (x0 ≤ 65535) × (y0 ≤ 65535) × (1 ≤ bw) × (bw ≤ 8) × (1 ≤ bh) × (bh ≤ 8) × (bw * bh ≤ length out.old) }
-    ensures { out.new ≡ drawn out.old bw bh (padded_chroma padded.now g.stride g.pad g.pw g.ph x0 y0 bw bh mvx mvy) }
+pub fn chroma_block(plane: PaddedPlane, block: Block, out: &mut [u8])
+    requires { (block.x ≤ 65535) × (block.y ≤ 65535) × (1 ≤ block.w) × (block.w ≤ 8) × (1 ≤ block.h) × (block.h ≤ 8) × (block.w * block.h ≤ length out.old) }
+    ensures { out.new ≡ drawn out.old block.w block.h (padded_chroma plane.entry.samples.now plane.entry.g.stride plane.entry.g.pad plane.entry.g.pw plane.entry.g.ph block.x block.y block.w block.h block.mv.x block.mv.y) }
 {
-    let x = coords::chroma_at(x0, mvx);
-    let y = coords::chroma_at(y0, mvy);
-    let fx = coords::chroma_phase(mvx);
-    let fy = coords::chroma_phase(mvy);
-    let whole = reaches(g, coords::CHROMA_BASE, 0, 1, x, y, bw, bh);
-    let at = area_of(whole, g, x, y);
-    if fx + fy == 0 {
-        route::predict_full(
-            padded,
-            at.p,
-            g.stride,
-            at.w,
-            at.h,
-            at.x,
-            at.y,
-            coords::CHROMA_BASE,
-            bw,
-            bh,
-            out,
-        );
-        return;
-    }
-    route::predict_chroma(
-        padded, at.p, g.stride, at.w, at.h, at.x, at.y, fx, fy, bw, bh, out,
-    );
-}
-
-pub fn shorter(m: usize, n: usize) -> usize
-    ensures { result ≡ min m n }
-{
-    if m < n { m } else { n }
+    let aim = Aim::<8>::of(block);
+    let whole = reaches(plane, aim, 0, 1);
+    let seen = look(whole, plane, aim);
+    route::predict::<Chroma, 8, 81>(seen.area, seen.aim, out);
 }
 
 // A block of each of two planes of one geometry, of which nothing is refused: located once.
-pub fn chroma_pair(
-    pu: &[u8],
-    pv: &[u8],
-    g: Geometry,
-    x0: usize,
-    y0: usize,
-    bw: usize,
-    bh: usize,
-    mvx: i32,
-    mvy: i32,
-    outu: &mut [u8],
-    outv: &mut [u8],
-)
-    requires { (1 ≤ g.pw) × (g.pw ≤ 8192) × (1 ≤ g.ph) × (g.ph ≤ 8192) × (g.pad ≤ 128) × (g.pw + 2 * g.pad ≤ g.stride) × (g.stride ≤ 16384) × (g.stride * (g.ph + 2 * g.pad) ≤ length pu.now) × (g.stride * (g.ph + 2 * g.pad) ≤ length pv.now) × (x0 ≤ 65535) × (y0 ≤ 65535) × (1 ≤ bw) × (bw ≤ 8) × (1 ≤ bh) × (bh ≤ 8) × (bw * bh ≤ length outu.old) × (bw * bh ≤ length outv.old) }
-    ensures { (outu.new ≡ drawn outu.old bw bh (padded_chroma pu.now g.stride g.pad g.pw g.ph x0 y0 bw bh mvx mvy))
-        × (outv.new ≡ drawn outv.old bw bh (padded_chroma pv.now g.stride g.pad g.pw g.ph x0 y0 bw bh mvx mvy)) }
+pub fn chroma_pair(u: PaddedPlane, v: PaddedPlane, block: Block, outu: &mut [u8], outv: &mut [u8])
+    requires { (v.g ≡ u.g) × (block.x ≤ 65535) × (block.y ≤ 65535) × (1 ≤ block.w) × (block.w ≤ 8) × (1 ≤ block.h) × (block.h ≤ 8) × (block.w * block.h ≤ length outu.old) × (block.w * block.h ≤ length outv.old) }
+    ensures { (outu.new ≡ drawn outu.old block.w block.h (padded_chroma u.entry.samples.now u.entry.g.stride u.entry.g.pad u.entry.g.pw u.entry.g.ph block.x block.y block.w block.h block.mv.x block.mv.y))
+        × (outv.new ≡ drawn outv.old block.w block.h (padded_chroma v.entry.samples.now u.entry.g.stride u.entry.g.pad u.entry.g.pw u.entry.g.ph block.x block.y block.w block.h block.mv.x block.mv.y)) }
 {
-    let x = coords::chroma_at(x0, mvx);
-    let y = coords::chroma_at(y0, mvy);
-    let fx = coords::chroma_phase(mvx);
-    let fy = coords::chroma_phase(mvy);
-    let inside = reaches(g, coords::CHROMA_BASE, 0, 1, x, y, bw, bh);
-    let area = area_of(inside, g, x, y);
-    let len = shorter(pu.len(), pv.len());
-    if fx + fy == 0 {
+    let aim = Aim::<8>::of(block);
+    let inside = reaches(u, aim, 0, 1);
+    let len = u.samples.len().min(v.samples.len());
+    let both = PaddedPlane {
+        samples: &u.samples[..len],
+        g: u.g,
+    };
+    let seen = look(inside, both, aim);
+    let Area {
+        at,
+        stride,
+        w,
+        h,
+        ..
+    } = seen.area;
+    let in_u = Area {
+        samples: u.samples,
+        at,
+        stride,
+        w,
+        h,
+    };
+    let in_v = Area {
+        samples: v.samples,
+        at,
+        stride,
+        w,
+        h,
+    };
+    if aim.fx + aim.fy == 0 {
         // The window lies inside, so the block does.
-        let s = route::locate_known(
-            inside,
-            len,
-            area.p,
-            g.stride,
-            area.w,
-            area.h,
-            area.x,
-            area.y,
-            coords::CHROMA_BASE,
-            bw,
-            bh,
-        );
-        route::full_from(
-            s,
-            pu,
-            area.p,
-            g.stride,
-            area.w,
-            area.h,
-            area.x,
-            area.y,
-            coords::CHROMA_BASE,
-            bw,
-            bh,
-            outu,
-        );
-        route::full_from(
-            s,
-            pv,
-            area.p,
-            g.stride,
-            area.w,
-            area.h,
-            area.x,
-            area.y,
-            coords::CHROMA_BASE,
-            bw,
-            bh,
-            outv,
-        );
+        let spot = route::locate_known(inside, seen.area, seen.aim);
+        route::full_from(spot, in_u, seen.aim, outu);
+        route::full_from(spot, in_v, seen.aim, outv);
         return;
     }
-    let s = route::locate_chroma(
-        len, area.p, g.stride, area.w, area.h, area.x, area.y, bw, bh,
-    );
-    route::chroma_from(
-        s, pu, area.p, g.stride, area.w, area.h, area.x, area.y, fx, fy, bw, bh, outu,
-    );
-    route::chroma_from(
-        s, pv, area.p, g.stride, area.w, area.h, area.x, area.y, fx, fy, bw, bh, outv,
-    );
+    let spot = route::locate_window::<Chroma, 8, 81>(seen.area, seen.aim);
+    route::predict_from::<Chroma, 8, 81>(spot, in_u, seen.aim, outu);
+    route::predict_from::<Chroma, 8, 81>(spot, in_v, seen.aim, outv);
 }

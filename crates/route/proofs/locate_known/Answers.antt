@@ -1,5 +1,5 @@
 -- What the caller knows is what the tests would leave.
-use Rattle.std.proofs.Common.{◌≡◌, true, sym, refl, ◌∙◌, arith}
+use Rattle.std.proofs.Common.{sym, ◌∙◌, arith}
 use Rattle.samples.proofs.Reach.{both}
 use Rattle.route.proofs.Inside.{lies}
 use Rattle.route.proofs.locate_known.Goals as goal

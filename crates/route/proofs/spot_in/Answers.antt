@@ -1,5 +1,5 @@
 -- What the tests leave.
-use Rattle.std.proofs.Common.{◌+◌, arith}
+use Rattle.std.proofs.Common.{arith}
 use Rattle.route.proofs.Inside.{lies}
 use Rattle.route.proofs.spot_in.Goals as goal
 

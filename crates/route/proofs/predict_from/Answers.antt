@@ -1,0 +1,15 @@
+-- Each way to read gives the samples nearest to the windows' places.
+use Rattle.std.proofs.Common.{◌+◌, ◌-◌, ◌∙◌, arith}
+use Rattle.std.proofs.lemmas.Option.{MatchOption-at_some}
+use Rattle.route.proofs.Inside.{room_of, placed}
+use Rattle.route.proofs.predict_from.Goals as goal
+
+pub block-requires : goal.block-requires
+block-requires g c = omega (arith, room_of (MatchOption-at_some _ _ _ c.in-Some.is c.requires.2) (c.args.aim.h - 1 + g.C.Component.AROUND) (omega arith))
+
+pub returns-in-Some : goal.returns-in-Some
+returns-in-Some g c =
+    let a = c.args.area in
+    let m = c.args.aim in
+    c.block.ensures
+    ∙ placed _ c.args.out.now a.samples.now a.at a.stride a.w a.h _ m.x m.y m.fx m.fy m.w m.h _ g.met.C.Component.reads (MatchOption-at_some _ _ _ c.in-Some.is c.requires.2)
