@@ -4,9 +4,15 @@
 ghost use Rattle.std.specs.Prelude.{◌≡◌, length};
 ghost use Rattle.grid.specs.Block.{drawn};
 ghost use Rattle.place.specs.Outcome.{after};
+ghost use Rattle.terms.specs.Refusal.{answered};
 ghost use Rattle.served.specs.Served.{block_refusal};
 ghost use Rattle.hpel.specs.Lookup.{ref_at, qpel_at};
+ghost use Rattle.hpel.specs.Answer.{at_answer, pair_answer};
 ghost use Rattle.hpel.specs.Reading.{contents, ref_tail, qpel_tails, hpel_sample};
+
+use hpel::{Pair, Spot};
+use terms::block::Block;
+use terms::refusal::Refusal;
 
 // f, h, v and c of a picture of cw by ch samples, with pad samples around it.
 #[derive(Clone, Copy)]
@@ -20,84 +26,33 @@ pub struct HpelPlanes<'a> {
     pub pad: usize,
 }
 
-pub fn hpel_ref_at<'a>(
-    p: HpelPlanes<'a>,
-    x0: usize,
-    y0: usize,
-    bw: usize,
-    bh: usize,
-    mvx: i32,
-    mvy: i32,
-) -> hpel::HpelAt
-    ensures { result ≡ ref_at (length p.entry.f.now) (length p.entry.h.now) (length p.entry.v.now) (length p.entry.c.now) p.entry.cw p.entry.ch p.entry.pad x0 y0 bw bh mvx mvy }
+pub fn hpel_ref_at<'a>(p: HpelPlanes<'a>, block: Block) -> Result<Spot, Refusal>
+    ensures { at_answer result ≡ ref_at (length p.entry.f.now) (length p.entry.h.now) (length p.entry.v.now) (length p.entry.c.now) p.entry.cw p.entry.ch p.entry.pad block.x block.y block.w block.h block.mv.x block.mv.y }
 {
-    hpel::hpel_ref_at(
-        p.f, p.h, p.v, p.c, p.cw, p.ch, p.pad, x0, y0, bw, bh, mvx, mvy,
-    )
+    hpel::hpel_ref_at(p.f, p.h, p.v, p.c, p.cw, p.ch, p.pad, block)
 }
 
-pub fn hpel_qpel_refs_at<'a>(
-    p: HpelPlanes<'a>,
-    x0: usize,
-    y0: usize,
-    bw: usize,
-    bh: usize,
-    mvx: i32,
-    mvy: i32,
-) -> hpel::HpelPair
-    ensures { result ≡ qpel_at (length p.entry.f.now) (length p.entry.h.now) (length p.entry.v.now) (length p.entry.c.now) p.entry.cw p.entry.ch p.entry.pad x0 y0 bw bh mvx mvy }
+pub fn hpel_qpel_refs_at<'a>(p: HpelPlanes<'a>, block: Block) -> Result<Pair, Refusal>
+    ensures { pair_answer result ≡ qpel_at (length p.entry.f.now) (length p.entry.h.now) (length p.entry.v.now) (length p.entry.c.now) p.entry.cw p.entry.ch p.entry.pad block.x block.y block.w block.h block.mv.x block.mv.y }
 {
-    hpel::hpel_qpel_refs_at(
-        p.f, p.h, p.v, p.c, p.cw, p.ch, p.pad, x0, y0, bw, bh, mvx, mvy,
-    )
+    hpel::hpel_qpel_refs_at(p.f, p.h, p.v, p.c, p.cw, p.ch, p.pad, block)
 }
 
-pub fn hpel_ref<'a>(
-    p: HpelPlanes<'a>,
-    x0: usize,
-    y0: usize,
-    bw: usize,
-    bh: usize,
-    mvx: i32,
-    mvy: i32,
-) -> &'a [u8]
-    ensures { result.now ≡ ref_tail p.entry.f.now p.entry.h.now p.entry.v.now p.entry.c.now p.entry.cw p.entry.ch p.entry.pad x0 y0 bw bh mvx mvy }
+pub fn hpel_ref<'a>(p: HpelPlanes<'a>, block: Block) -> &'a [u8]
+    ensures { result.now ≡ ref_tail p.entry.f.now p.entry.h.now p.entry.v.now p.entry.c.now p.entry.cw p.entry.ch p.entry.pad block.x block.y block.w block.h block.mv.x block.mv.y }
 {
-    hpel::hpel_ref(
-        p.f, p.h, p.v, p.c, p.cw, p.ch, p.pad, x0, y0, bw, bh, mvx, mvy,
-    )
+    hpel::hpel_ref(p.f, p.h, p.v, p.c, p.cw, p.ch, p.pad, block)
 }
 
-pub fn hpel_qpel_refs<'a>(
-    p: HpelPlanes<'a>,
-    x0: usize,
-    y0: usize,
-    bw: usize,
-    bh: usize,
-    mvx: i32,
-    mvy: i32,
-) -> [&'a [u8]; 2]
-    ensures { contents result ≡ qpel_tails p.entry.f.now p.entry.h.now p.entry.v.now p.entry.c.now p.entry.cw p.entry.ch p.entry.pad x0 y0 bw bh mvx mvy }
+pub fn hpel_qpel_refs<'a>(p: HpelPlanes<'a>, block: Block) -> [&'a [u8]; 2]
+    ensures { contents result ≡ qpel_tails p.entry.f.now p.entry.h.now p.entry.v.now p.entry.c.now p.entry.cw p.entry.ch p.entry.pad block.x block.y block.w block.h block.mv.x block.mv.y }
 {
-    hpel::hpel_qpel_refs(
-        p.f, p.h, p.v, p.c, p.cw, p.ch, p.pad, x0, y0, bw, bh, mvx, mvy,
-    )
+    hpel::hpel_qpel_refs(p.f, p.h, p.v, p.c, p.cw, p.ch, p.pad, block)
 }
 
-pub fn hpel_block<'a>(
-    p: HpelPlanes<'a>,
-    x0: usize,
-    y0: usize,
-    bw: usize,
-    bh: usize,
-    mvx: i32,
-    mvy: i32,
-    out: &mut [u8],
-) -> u32
-    ensures { (result ≡ block_refusal (length p.entry.f.now) (length p.entry.h.now) (length p.entry.v.now) (length p.entry.c.now) p.entry.cw p.entry.ch p.entry.pad x0 y0 bw bh mvx mvy (length out.old))
-        × (out.new ≡ after result out.old (drawn out.old bw bh (hpel_sample p.entry.f.now p.entry.h.now p.entry.v.now p.entry.c.now p.entry.cw p.entry.pad x0 y0 mvx mvy))) }
+pub fn hpel_block<'a>(p: HpelPlanes<'a>, block: Block, out: &mut [u8]) -> Result<(), Refusal>
+    ensures { (answered result ≡ block_refusal (length p.entry.f.now) (length p.entry.h.now) (length p.entry.v.now) (length p.entry.c.now) p.entry.cw p.entry.ch p.entry.pad block.x block.y block.w block.h block.mv.x block.mv.y (length out.old))
+        × (out.new ≡ after (answered result) out.old (drawn out.old block.w block.h (hpel_sample p.entry.f.now p.entry.h.now p.entry.v.now p.entry.c.now p.entry.cw p.entry.pad block.x block.y block.mv.x block.mv.y))) }
 {
-    hpel::hpel_block(
-        p.f, p.h, p.v, p.c, p.cw, p.ch, p.pad, x0, y0, bw, bh, mvx, mvy, out,
-    )
+    hpel::hpel_block(p.f, p.h, p.v, p.c, p.cw, p.ch, p.pad, block, out)
 }

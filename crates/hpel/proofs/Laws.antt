@@ -28,15 +28,31 @@ use Rattle.samples.specs.Tap.{mean}
 use Rattle.samples.proofs.Reach.{Near, both, mean_same}
 use Rattle.hpel.specs.declared.HpelAt.{HpelAt}
 use Rattle.hpel.specs.declared.HpelPair.{HpelPair}
-use Rattle.served.proofs.Laws.{LentOk, PlaceOk, Ok, place_is}
+use Rattle.served.proofs.Laws.{Ok, place_is}
 use Rattle.served.specs.Served.{at_quarter, bad_width}
 use Rattle.hpel.specs.Lookup.{first_at, in_order, one_at, two_at, ref_at, qpel_at}
 use Rattle.hpel.specs.Reading.{plane_of, ref_tail, qpel_tails, anchor_at, hpel_sample}
 
-pub first_asks : (f h v c w ht pad x0 y0 bw bh : ℕ) {m n x y : ℕ} → m ≡ x → n ≡ y
-    → LentOk f h v c w ht pad x0 y0 bw bh × PlaceOk (wide w pad) (wide ht pad) bw bh (x + pad) (y + pad) → (a : Anchor) → Near a
-    → (2 ^ 29 ≤ m + pad) × (2 ^ 29 ≤ n + pad) × (m + pad ≤ 2 ^ 31) × (n + pad ≤ 2 ^ 31) × (wide w pad ≤ 8448) × (a.dx ≤ 1) × (a.dy ≤ 1)
-first_asks f h v c w ht pad x0 y0 bw bh e g k a near = omega (arith, e, g, k, near)
+-- a row and a place as the code has them
+pub record Cornered (w pad x0 y0 : ℕ) (mvx mvy : ℤ) (pw x y : ℕ) : Type 0 where
+  pub row : pw ≡ wide w pad
+  pub across : x ≡ x0 + up (2 ^ 31) mvx / 4 + pad
+  pub down : y ≡ y0 + up (2 ^ 31) mvy / 4 + pad
+
+pub cornered : (w pad x0 y0 : ℕ) (mvx mvy : ℤ) {pw x y : ℕ} → (pw ≡ wide w pad) × (x ≡ x0 + up (2 ^ 31) mvx / 4 + pad) × (y ≡ y0 + up (2 ^ 31) mvy / 4 + pad)
+    → Cornered w pad x0 y0 mvx mvy pw x y
+cornered w pad x0 y0 mvx mvy e = record { row = e.0; across = e.1; down = e.2 }
+
+module _ {w pad x0 y0 pw x y : ℕ} {mvx mvy : ℤ} (k : Cornered w pad x0 y0 mvx mvy pw x y) where
+  pub first_asks : (f h v c ht bw bh : ℕ) → Ok f h v c w ht pad x0 y0 bw bh mvx mvy → (a : Anchor) → Near a
+      → (2 ^ 29 ≤ x) × (2 ^ 29 ≤ y) × (x ≤ 2 ^ 31) × (y ≤ 2 ^ 31) × (pw ≤ 8448) × (a.dx ≤ 1) × (a.dy ≤ 1)
+  first_asks f h v c ht bw bh ok a near = omega (arith, k, ok, near)
+
+  pub place_across : mag mvx < 2 ^ 31 → sub_ℕ x (2 ^ 29) ≡ luma_place x0 mvx pad
+  place_across p = ap (λ (n : ℕ). sub_ℕ n (2 ^ 29)) k.across ∙ place_is x0 mvx pad p refl
+
+  pub place_down : mag mvy < 2 ^ 31 → sub_ℕ y (2 ^ 29) ≡ luma_place y0 mvy pad
+  place_down p = ap (λ (n : ℕ). sub_ℕ n (2 ^ 29)) k.down ∙ place_is y0 mvy pad p refl
 
 -- ---- the kinds of anchors are four
 
@@ -79,12 +95,6 @@ picked f h v c d (suc (suc zero)) b = refl
 picked f h v c d (suc (suc (suc zero))) b = refl
 picked f h v c d (suc (suc (suc (suc n)))) b = absurd (omega arith)
 
-pub plane_last : (f h v c : List ℕ) (n : ℕ) → 2 < n → plane_of f h v c n ≡ c
-plane_last f h v c zero b = absurd (omega arith)
-plane_last f h v c (suc zero) b = absurd (omega arith)
-plane_last f h v c (suc (suc zero)) b = absurd (omega arith)
-plane_last f h v c (suc (suc (suc n))) b = refl
-
 -- what has room in each has room in the one that is named
 plane_room : (f h v c : List ℕ) (m n : ℕ) → m ≤ length f → m ≤ length h → m ≤ length v → m ≤ length c → m ≤ length (plane_of f h v c n)
 plane_room f h v c m zero a b d e = a
@@ -116,6 +126,14 @@ order_near k n = go (ltb k.q.kind k.p.kind)
     go true = (n.1, n.0)
     go false = n
 
+pub order_four : (k : Phase) → (k.p.kind < 4) × (k.q.kind < 4) → ((in_order k).p.kind < 4) × ((in_order k).q.kind < 4)
+unfolding in_order
+order_four k n = go (ltb k.q.kind k.p.kind)
+  where
+    go : (b : Bool) → let o = cond b (pair k.q k.p) k in (o.p.kind < 4) × (o.q.kind < 4)
+    go true = (n.1, n.0)
+    go false = n
+
 -- ---- one call
 
 -- an anchor's rows lie within its plane
@@ -141,17 +159,20 @@ pub two_refused : (n m : ℕ) (k : Phase) (pw : ℕ) (px py : ℤ) → m ≡ n �
 two_refused n zero k pw px py e h = absurd (h refl)
 two_refused n (suc m) k pw px py e h = ap (λ (r : ℕ). two_at r k pw px py) e
 
-module _ (pw n : ℕ) {u v px py : ℤ} (e : 0 ≡ n) (ex : u ≡ px) (ey : v ≡ py) where
-  pub one_served : {a b : Anchor} {i : ℕ} → a ≡ b → i ≡ first_at a pw u v → ◌≡◌ {A = HpelAt} (record { refusal = 0; plane = a.kind; offset = i; stride = pw }) (one_at n b pw px py)
-  one_served {a} {b} g o =
-      ap (λ (k : ℕ). record { refusal = 0; plane = a.kind; offset = k; stride = pw }) o
-      ∙ (λ t. one_at 0 (g t) pw (ex t) (ey t)) ∙ ap (λ (r : ℕ). one_at r b pw px py) e
+-- w is the code's row, and u and v its place
+module _ (n : ℕ) {w pw : ℕ} {u v px py : ℤ} (e : 0 ≡ n) (ew : w ≡ pw) (ex : u ≡ px) (ey : v ≡ py) where
+  pub one_served : {a b : Anchor} {d i : ℕ} → a ≡ b → d ≡ a.kind → i ≡ first_at a w u v
+      → ◌≡◌ {A = HpelAt} (record { refusal = 0; plane = d; offset = i; stride = w }) (one_at n b pw px py)
+  one_served {a} {b} g c o =
+      ap₂ (λ (d i : ℕ). record { refusal = 0; plane = d; offset = i; stride = w }) c o
+      ∙ (λ t. one_at 0 (g t) (ew t) (ex t) (ey t)) ∙ ap (λ (r : ℕ). one_at r b pw px py) e
 
-  pub two_served : {k l : Phase} {i j : ℕ} → k ≡ l → i ≡ first_at k.p pw u v → j ≡ first_at k.q pw u v
-      → ◌≡◌ {A = HpelPair} (record { refusal = 0; plane_a = k.p.kind; plane_b = k.q.kind; offset_a = i; offset_b = j; stride = pw }) (two_at n l pw px py)
-  two_served {k} {l} g o m =
-      ap₂ (λ (i j : ℕ). record { refusal = 0; plane_a = k.p.kind; plane_b = k.q.kind; offset_a = i; offset_b = j; stride = pw }) o m
-      ∙ (λ t. two_at 0 (g t) pw (ex t) (ey t)) ∙ ap (λ (r : ℕ). two_at r l pw px py) e
+  pub two_served : {k l : Phase} {c d i j : ℕ} → k ≡ l → c ≡ k.p.kind → d ≡ k.q.kind → i ≡ first_at k.p w u v → j ≡ first_at k.q w u v
+      → ◌≡◌ {A = HpelPair} (record { refusal = 0; plane_a = c; plane_b = d; offset_a = i; offset_b = j; stride = w }) (two_at n l pw px py)
+  two_served {k} {l} {i = i} {j = j} g p q o m =
+      ap₂ (λ (c d : ℕ). record { refusal = 0; plane_a = c; plane_b = d; offset_a = i; offset_b = j; stride = w }) p q
+      ∙ ap₂ (λ (i j : ℕ). record { refusal = 0; plane_a = k.p.kind; plane_b = k.q.kind; offset_a = i; offset_b = j; stride = w }) o m
+      ∙ (λ t. two_at 0 (g t) (ew t) (ex t) (ey t)) ∙ ap (λ (r : ℕ). two_at r l pw px py) e
 
 -- ---- tails
 
@@ -239,20 +260,20 @@ module _ (f h v c : List ℕ) (w pad x0 y0 : ℕ) (mvx mvy : ℤ) {px py : ℤ} 
       )
 
   -- and so they are in its view
-  pub view_room : (ht bw bh : ℕ) → mag mvx < 2 ^ 31 → mag mvy < 2 ^ 31 → Ok (length f) (length h) (length v) (length c) w ht pad x0 y0 bw bh mvx mvy
+  view_room : (ht bw bh : ℕ) → mag mvx < 2 ^ 31 → mag mvy < 2 ^ 31 → Ok (length f) (length h) (length v) (length c) w ht pad x0 y0 bw bh mvx mvy
       → (a : Anchor) → Near a → {s t : List ℕ} {i : ℕ} → Looked a t i → s ≡ drop i t → (bh - 1) * wide w pad + bw ≤ length s
   view_room ht bw bh m n ok a near {t = t} {i = i} l e = omega (arith, ap length e ∙ length-drop i t, rows_room ht bw bh m n ok a near l)
 
   -- what was averaged, and what was copied, is the block
   module _ (out : List ℕ) (bw bh : ℕ) (k : Phase) (e : k ≡ phase_of (phase mvx 4) (phase mvy 4)) where
-    pub averaged : {d s t : List ℕ} {i j : ℕ} → Looked k.p s i → Looked k.q t j
+    averaged : {d s t : List ℕ} {i j : ℕ} → Looked k.p s i → Looked k.q t j
         → d ≡ drawn out bw bh (λ x y. mean (get_or s (i + y * wide w pad + x) 0) (get_or t (j + y * wide w pad + x) 0)) → d ≡ drawn out bw bh (hpel_sample f h v c w pad x0 y0 mvx mvy)
     unfolding hpel_sample
     averaged l m g =
         g ∙ drawn_ext out bw bh _ _ (λ x y _ _. ap₂ mean (reads k.p x y l) (reads k.q x y m) ∙ (λ t. mean (read (e t).p x y) (read (e t).q x y)))
 
     -- the same of views
-    pub averaged_views : {d s t a b : List ℕ} {i j : ℕ} → Looked k.p s i → Looked k.q t j → a ≡ drop i s → b ≡ drop j t
+    averaged_views : {d s t a b : List ℕ} {i j : ℕ} → Looked k.p s i → Looked k.q t j → a ≡ drop i s → b ≡ drop j t
         → d ≡ drawn out bw bh (λ x y. mean (get_or a (y * wide w pad + x) 0) (get_or b (y * wide w pad + x) 0)) → d ≡ drawn out bw bh (hpel_sample f h v c w pad x0 y0 mvx mvy)
     averaged_views {s = s} {t = t} {i = i} {j = j} l m p q g = averaged l m (g ∙ drawn_ext out bw bh _ _ (λ x y _ _. ap₂ mean (viewed s i p x y) (viewed t j q x y)))
       where
@@ -260,8 +281,36 @@ module _ (f h v c : List ℕ) (w pad x0 y0 : ℕ) (mvx mvy : ℤ) {px py : ℤ} 
         viewed s i e x y =
             ap (λ (l : List ℕ). get_or l (y * wide w pad + x) 0) e ∙ get_or-drop i s (y * wide w pad + x) 0 ∙ ap (λ (n : ℕ). get_or s n 0) (sym (add_assoc i (y * wide w pad) x))
 
-    pub copied : {d s : List ℕ} {i : ℕ} → Looked k.p s i → k.p ≡ k.q
+    copied : {d s : List ℕ} {i : ℕ} → Looked k.p s i → k.p ≡ k.q
         → d ≡ drawn out bw bh (λ x y. get_or s (i + y * wide w pad + x) 0) → d ≡ drawn out bw bh (hpel_sample f h v c w pad x0 y0 mvx mvy)
     copied l same g =
         averaged l (l.0 ∙ ap (λ (a : Anchor). plane_of f h v c a.kind) same, l.1 ∙ ap (λ (a : Anchor). first_at a (wide w pad) px py) same)
         (g ∙ drawn_ext out bw bh _ _ (λ x y _ _. sym (mean_same _)))
+
+-- the same with the row and the place as the code has them
+module _ (f h v c : List ℕ) (w pad x0 y0 : ℕ) (mvx mvy : ℤ) {pw x y : ℕ} (k : Cornered w pad x0 y0 mvx mvy pw x y) (m : mag mvx < 2 ^ 31) (n : mag mvy < 2 ^ 31) where
+  abbrev pub Found : Anchor → List ℕ → ℕ → Type 0
+  Found a t i = (t ≡ plane_of f h v c a.kind) × (i ≡ first_at a pw (sub_ℕ x (2 ^ 29)) (sub_ℕ y (2 ^ 29)))
+
+  found : (a : Anchor) {t : List ℕ} {i : ℕ} → Found a t i → (t ≡ plane_of f h v c a.kind) × (i ≡ first_at a (wide w pad) (sub_ℕ x (2 ^ 29)) (sub_ℕ y (2 ^ 29)))
+  found a l = (l.0, l.1 ∙ ap (λ (r : ℕ). first_at a r (sub_ℕ x (2 ^ 29)) (sub_ℕ y (2 ^ 29))) k.row)
+
+  module _ (ht bw bh : ℕ) (ok : Ok (length f) (length h) (length v) (length c) w ht pad x0 y0 bw bh mvx mvy) (a : Anchor) (near : Near a) {t : List ℕ} {i : ℕ} (l : Found a t i) where
+    pub found_rows : i + (bh - 1) * pw + bw ≤ length t
+    found_rows = rw k.row (rows_room f h v c w pad x0 y0 mvx mvy (place_across k m) (place_down k n) ht bw bh m n ok a near (found a l))
+
+    pub found_view : {s : List ℕ} → s ≡ drop i t → (bh - 1) * pw + bw ≤ length s
+    found_view e = rw k.row (view_room f h v c w pad x0 y0 mvx mvy (place_across k m) (place_down k n) ht bw bh m n ok a near (found a l) e)
+
+  module _ (out : List ℕ) (bw bh : ℕ) (o : Phase) (e : o ≡ phase_of (phase mvx 4) (phase mvy 4)) where
+    pub found_averaged : {d s t a b : List ℕ} {i j : ℕ} → Found o.p s i → Found o.q t j → a ≡ drop i s → b ≡ drop j t
+        → d ≡ drawn out bw bh (λ x y. mean (get_or a (y * pw + x) 0) (get_or b (y * pw + x) 0)) → d ≡ drawn out bw bh (hpel_sample f h v c w pad x0 y0 mvx mvy)
+    found_averaged {a = a} {b = b} l r p q g =
+        averaged_views f h v c w pad x0 y0 mvx mvy (place_across k m) (place_down k n) out bw bh o e (found o.p l) (found o.q r) p q
+        (g ∙ ap (λ (r : ℕ). drawn out bw bh (λ x y. mean (get_or a (y * r + x) 0) (get_or b (y * r + x) 0))) k.row)
+
+    pub found_copied : {d s : List ℕ} {i : ℕ} → Found o.p s i → o.p ≡ o.q
+        → d ≡ drawn out bw bh (λ x y. get_or s (i + y * pw + x) 0) → d ≡ drawn out bw bh (hpel_sample f h v c w pad x0 y0 mvx mvy)
+    found_copied {s = s} {i = i} l same g =
+        copied f h v c w pad x0 y0 mvx mvy (place_across k m) (place_down k n) out bw bh o e (found o.p l) same
+        (g ∙ ap (λ (r : ℕ). drawn out bw bh (λ x y. get_or s (i + y * r + x) 0)) k.row)

@@ -1,4 +1,5 @@
 -- Laws of the lookups and blocks of half-sample planes, that the public contracts determine their outcomes, and that planes as built give the standard's samples.
+pub mod Answer
 pub mod Laws
 pub mod Only
 pub mod Tails

@@ -1,2 +1,3 @@
 pub mod Lookup
+pub mod Answer
 pub mod Reading

@@ -1,19 +1,69 @@
 // Half-sample planes in use: the lookups of numbers, the views, and the block. The planes are read as lent, whatever they hold.
+// The calls over a bundle of planes take it apart and call these, so the planes stay slices and numbers here.
 #![tactic(auto)]
 
-ghost use Rattle.std.specs.Prelude.{◌≡◌, ◌+◌, ◌*◌, ◌^◌, ◌≤◌, length, drop};
+ghost use Rattle.std.specs.Prelude.{◌≡◌, ◌+◌, ◌*◌, ◌/◌, ◌^◌, ◌<◌, ◌≤◌, length, drop};
 ghost use Rattle.std.proofs.Math.IntN.{sub_ℕ};
+ghost use Rattle.signed.specs.Lift.{up};
 ghost use Rattle.grid.specs.Block.{drawn};
 ghost use Rattle.place.specs.Outcome.{after};
+ghost use Rattle.place.specs.Place.{phase};
+ghost use Rattle.samples.specs.Phase.{phase_of};
+ghost use Rattle.terms.specs.Refusal.{answered};
+ghost use Rattle.planes.specs.Planes.{wide};
 ghost use Rattle.served.specs.Served.{block_refusal};
 ghost use Rattle.hpel.specs.Lookup.{first_at, in_order, ref_at, qpel_at};
+ghost use Rattle.hpel.specs.Answer.{plane_number, at_answer, pair_answer};
 ghost use Rattle.hpel.specs.Reading.{plane_of, contents, ref_tail, qpel_tails, hpel_sample};
 
-use place::{coords, limits};
+use place::coords;
 use samples::phases;
 use samples::phases::{Anchor, Phase};
+use served::Lent;
+use terms::block::Block;
+use terms::refusal::Refusal;
 
-// One plane: the refusal, the plane's number, the offset of the block's first sample in it, and the stride.
+// The planes f, h, v and c, by what they hold.
+#[derive(Clone, Copy, Debug, PartialEq, Eq)]
+pub enum Kind {
+    Full,
+    Across,
+    Down,
+    Centre,
+}
+
+impl Kind {
+    pub fn number(self) -> u32
+        ensures { result ≡ plane_number self }
+    {
+        match self {
+            Kind::Full => 0,
+            Kind::Across => 1,
+            Kind::Down => 2,
+            Kind::Centre => 3,
+        }
+    }
+}
+
+// Where samples lie: their plane, the offset of the block's first sample in it, and the stride.
+#[derive(Clone, Copy, Debug, PartialEq, Eq)]
+pub struct Spot {
+    pub plane: Kind,
+    pub offset: usize,
+    pub stride: usize,
+}
+
+// The same of the two that a quarter phase averages.
+#[derive(Clone, Copy, Debug, PartialEq, Eq)]
+pub struct Pair {
+    pub plane_a: Kind,
+    pub plane_b: Kind,
+    pub offset_a: usize,
+    pub offset_b: usize,
+    pub stride: usize,
+}
+
+// A lookup's answer as C has it: the refusal, or 0 and the spot; zeros on a refusal.
 #[repr(C)]
 #[derive(Clone, Copy)]
 pub struct HpelAt {
@@ -23,7 +73,27 @@ pub struct HpelAt {
     pub stride: usize,
 }
 
-// Two planes, which a quarter phase averages.
+impl From<Result<Spot, Refusal>> for HpelAt {
+    ghost from_gives = { λ r k. k ≡ at_answer r };
+
+    fn from(answer: Result<Spot, Refusal>) -> HpelAt {
+        match answer {
+            Ok(spot) => HpelAt {
+                refusal: 0,
+                plane: spot.plane.number(),
+                offset: spot.offset,
+                stride: spot.stride,
+            },
+            Err(refusal) => HpelAt {
+                refusal: refusal.number(),
+                plane: 0,
+                offset: 0,
+                stride: 0,
+            },
+        }
+    }
+}
+
 #[repr(C)]
 #[derive(Clone, Copy)]
 pub struct HpelPair {
@@ -33,6 +103,31 @@ pub struct HpelPair {
     pub offset_a: usize,
     pub offset_b: usize,
     pub stride: usize,
+}
+
+impl From<Result<Pair, Refusal>> for HpelPair {
+    ghost from_gives = { λ r k. k ≡ pair_answer r };
+
+    fn from(answer: Result<Pair, Refusal>) -> HpelPair {
+        match answer {
+            Ok(pair) => HpelPair {
+                refusal: 0,
+                plane_a: pair.plane_a.number(),
+                plane_b: pair.plane_b.number(),
+                offset_a: pair.offset_a,
+                offset_b: pair.offset_b,
+                stride: pair.stride,
+            },
+            Err(refusal) => HpelPair {
+                refusal: refusal.number(),
+                plane_a: 0,
+                plane_b: 0,
+                offset_a: 0,
+                offset_b: 0,
+                stride: 0,
+            },
+        }
+    }
 }
 
 // Where an anchor's samples begin in its plane, of a place that is 2^29 up.
@@ -54,6 +149,48 @@ fn in_order(k: Phase) -> Phase
     k
 }
 
+fn kind_of(a: Anchor) -> Kind
+    requires { a.kind < 4 }
+    ensures { plane_number result ≡ a.kind }
+{
+    match a.kind {
+        0 => Kind::Full,
+        1 => Kind::Across,
+        2 => Kind::Down,
+        _ => Kind::Centre,
+    }
+}
+
+// A block's place in planes whose rows have pw samples, 2^29 up.
+#[derive(Clone, Copy)]
+struct Corner {
+    pw: usize,
+    x: usize,
+    y: usize,
+}
+
+fn place_of(cw: usize, pad: usize, block: Block) -> Corner
+    requires { (cw ≤ 8192) × (pad ≤ 128) × (block.x ≤ 65535) × (block.y ≤ 65535) }
+    ensures { (result.pw ≡ wide cw pad)
+        × (result.x ≡ block.x + up (2 ^ 31) block.mv.x / 4 + pad)
+        × (result.y ≡ block.y + up (2 ^ 31) block.mv.y / 4 + pad) }
+{
+    Corner {
+        pw: cw + 2 * pad,
+        x: coords::luma_at(block.x, block.mv.x) + pad,
+        y: coords::luma_at(block.y, block.mv.y) + pad,
+    }
+}
+
+fn anchors(block: Block) -> Phase
+    ensures { result ≡ phase_of (phase block.mv.x 4) (phase block.mv.y 4) }
+{
+    phases::phase_at(
+        coords::luma_phase(block.mv.x),
+        coords::luma_phase(block.mv.y),
+    )
+}
+
 // Where the samples of a full or half phase lie. The planes have one lifetime, as the planes of a bundle have.
 pub fn hpel_ref_at<'a>(
     f: &'a [u8],
@@ -63,49 +200,27 @@ pub fn hpel_ref_at<'a>(
     cw: usize,
     ch: usize,
     pad: usize,
-    x0: usize,
-    y0: usize,
-    bw: usize,
-    bh: usize,
-    mvx: i32,
-    mvy: i32,
-) -> HpelAt
-    ensures { result ≡ ref_at (length f.now) (length h.now) (length v.now) (length c.now) cw ch pad x0 y0 bw bh mvx mvy }
+    block: Block,
+) -> Result<Spot, Refusal>
+    ensures { at_answer result ≡ ref_at (length f.now) (length h.now) (length v.now) (length c.now) cw ch pad block.x block.y block.w block.h block.mv.x block.mv.y }
 {
-    let no = served::check_ref(
-        f.len(),
-        h.len(),
-        v.len(),
-        c.len(),
+    let lent = Lent {
+        f: f.len(),
+        h: h.len(),
+        v: v.len(),
+        c: c.len(),
         cw,
         ch,
         pad,
-        x0,
-        y0,
-        bw,
-        bh,
-        mvx,
-        mvy,
-    );
-    if no != limits::DONE {
-        return HpelAt {
-            refusal: no,
-            plane: 0,
-            offset: 0,
-            stride: 0,
-        };
-    }
-    let k = phases::phase_at(coords::luma_phase(mvx), coords::luma_phase(mvy));
-    let a = k.p;
-    let pw = cw + 2 * pad;
-    let x = coords::luma_at(x0, mvx) + pad;
-    let y = coords::luma_at(y0, mvy) + pad;
-    HpelAt {
-        refusal: limits::DONE,
-        plane: a.kind as u32,
+    };
+    served::check_ref(lent, block)?;
+    let a = anchors(block).p;
+    let Corner { pw, x, y } = place_of(cw, pad, block);
+    Ok(Spot {
+        plane: kind_of(a),
         offset: first_at(a, pw, x, y),
         stride: pw,
-    }
+    })
 }
 
 // Where the two samples that a quarter phase averages lie, in the plane order f, h, v, c.
@@ -117,64 +232,39 @@ pub fn hpel_qpel_refs_at<'a>(
     cw: usize,
     ch: usize,
     pad: usize,
-    x0: usize,
-    y0: usize,
-    bw: usize,
-    bh: usize,
-    mvx: i32,
-    mvy: i32,
-) -> HpelPair
-    ensures { result ≡ qpel_at (length f.now) (length h.now) (length v.now) (length c.now) cw ch pad x0 y0 bw bh mvx mvy }
+    block: Block,
+) -> Result<Pair, Refusal>
+    ensures { pair_answer result ≡ qpel_at (length f.now) (length h.now) (length v.now) (length c.now) cw ch pad block.x block.y block.w block.h block.mv.x block.mv.y }
 {
-    let no = served::check_qpel(
-        f.len(),
-        h.len(),
-        v.len(),
-        c.len(),
+    let lent = Lent {
+        f: f.len(),
+        h: h.len(),
+        v: v.len(),
+        c: c.len(),
         cw,
         ch,
         pad,
-        x0,
-        y0,
-        bw,
-        bh,
-        mvx,
-        mvy,
-    );
-    if no != limits::DONE {
-        return HpelPair {
-            refusal: no,
-            plane_a: 0,
-            plane_b: 0,
-            offset_a: 0,
-            offset_b: 0,
-            stride: 0,
-        };
-    }
-    let k = in_order(phases::phase_at(coords::luma_phase(mvx), coords::luma_phase(mvy)));
-    let a = k.p;
-    let b = k.q;
-    let pw = cw + 2 * pad;
-    let x = coords::luma_at(x0, mvx) + pad;
-    let y = coords::luma_at(y0, mvy) + pad;
-    HpelPair {
-        refusal: limits::DONE,
-        plane_a: a.kind as u32,
-        plane_b: b.kind as u32,
+    };
+    served::check_qpel(lent, block)?;
+    let Phase { p: a, q: b } = in_order(anchors(block));
+    let Corner { pw, x, y } = place_of(cw, pad, block);
+    Ok(Pair {
+        plane_a: kind_of(a),
+        plane_b: kind_of(b),
         offset_a: first_at(a, pw, x, y),
         offset_b: first_at(b, pw, x, y),
         stride: pw,
-    }
+    })
 }
 
-fn choose<'a>(f: &'a [u8], h: &'a [u8], v: &'a [u8], c: &'a [u8], plane: u32) -> &'a [u8]
-    ensures { result.now ≡ plane_of f.now h.now v.now c.now plane }
+fn choose<'a>(f: &'a [u8], h: &'a [u8], v: &'a [u8], c: &'a [u8], plane: Kind) -> &'a [u8]
+    ensures { result.now ≡ plane_of f.now h.now v.now c.now (plane_number plane) }
 {
     match plane {
-        0 => f,
-        1 => h,
-        2 => v,
-        _ => c,
+        Kind::Full => f,
+        Kind::Across => h,
+        Kind::Down => v,
+        Kind::Centre => c,
     }
 }
 
@@ -193,20 +283,14 @@ pub fn hpel_ref<'a>(
     cw: usize,
     ch: usize,
     pad: usize,
-    x0: usize,
-    y0: usize,
-    bw: usize,
-    bh: usize,
-    mvx: i32,
-    mvy: i32,
+    block: Block,
 ) -> &'a [u8]
-    ensures { result.now ≡ ref_tail f.now h.now v.now c.now cw ch pad x0 y0 bw bh mvx mvy }
+    ensures { result.now ≡ ref_tail f.now h.now v.now c.now cw ch pad block.x block.y block.w block.h block.mv.x block.mv.y }
 {
-    let k = hpel_ref_at(f, h, v, c, cw, ch, pad, x0, y0, bw, bh, mvx, mvy);
-    if k.refusal != limits::DONE {
-        return &f[..0];
+    match hpel_ref_at(f, h, v, c, cw, ch, pad, block) {
+        Ok(spot) => tail(choose(f, h, v, c, spot.plane), spot.offset),
+        Err(_) => &f[..0],
     }
-    tail(choose(f, h, v, c, k.plane), k.offset)
 }
 
 // The two planes of a quarter phase, each from its first sample on, in the plane order; both empty when the lookup of numbers refuses.
@@ -218,23 +302,18 @@ pub fn hpel_qpel_refs<'a>(
     cw: usize,
     ch: usize,
     pad: usize,
-    x0: usize,
-    y0: usize,
-    bw: usize,
-    bh: usize,
-    mvx: i32,
-    mvy: i32,
+    block: Block,
 ) -> [&'a [u8]; 2]
-    ensures { contents result ≡ qpel_tails f.now h.now v.now c.now cw ch pad x0 y0 bw bh mvx mvy }
+    ensures { contents result ≡ qpel_tails f.now h.now v.now c.now cw ch pad block.x block.y block.w block.h block.mv.x block.mv.y }
 {
-    let k = hpel_qpel_refs_at(f, h, v, c, cw, ch, pad, x0, y0, bw, bh, mvx, mvy);
-    if k.refusal != limits::DONE {
-        let none = &f[..0];
-        return [none, none];
+    match hpel_qpel_refs_at(f, h, v, c, cw, ch, pad, block) {
+        Ok(pair) => {
+            let a = tail(choose(f, h, v, c, pair.plane_a), pair.offset_a);
+            let b = tail(choose(f, h, v, c, pair.plane_b), pair.offset_b);
+            [a, b]
+        }
+        Err(_) => [&f[..0], &f[..0]],
     }
-    let a = tail(choose(f, h, v, c, k.plane_a), k.offset_a);
-    let b = tail(choose(f, h, v, c, k.plane_b), k.offset_b);
-    [a, b]
 }
 
 // The block of a half phase, copied, or of a quarter phase, averaged, into out by rows.
@@ -246,55 +325,37 @@ pub fn hpel_block<'a>(
     cw: usize,
     ch: usize,
     pad: usize,
-    x0: usize,
-    y0: usize,
-    bw: usize,
-    bh: usize,
-    mvx: i32,
-    mvy: i32,
+    block: Block,
     out: &mut [u8],
-) -> u32
-    ensures { (result ≡ block_refusal (length f.now) (length h.now) (length v.now) (length c.now) cw ch pad x0 y0 bw bh mvx mvy (length out.old))
-        × (out.new ≡ after result out.old (drawn out.old bw bh (hpel_sample f.now h.now v.now c.now cw pad x0 y0 mvx mvy))) }
+) -> Result<(), Refusal>
+    ensures { (answered result ≡ block_refusal (length f.now) (length h.now) (length v.now) (length c.now) cw ch pad block.x block.y block.w block.h block.mv.x block.mv.y (length out.old))
+        × (out.new ≡ after (answered result) out.old (drawn out.old block.w block.h (hpel_sample f.now h.now v.now c.now cw pad block.x block.y block.mv.x block.mv.y))) }
 {
-    let no = served::check_block(
-        f.len(),
-        h.len(),
-        v.len(),
-        c.len(),
+    let lent = Lent {
+        f: f.len(),
+        h: h.len(),
+        v: v.len(),
+        c: c.len(),
         cw,
         ch,
         pad,
-        x0,
-        y0,
-        bw,
-        bh,
-        mvx,
-        mvy,
-        out.len(),
-    );
-    if no != limits::DONE {
-        return no;
-    }
-    let fx = coords::luma_phase(mvx);
-    let fy = coords::luma_phase(mvy);
-    let k = phases::phase_at(fx, fy);
+    };
+    served::check_block(lent, block, out.len())?;
+    let fx = coords::luma_phase(block.mv.x);
+    let fy = coords::luma_phase(block.mv.y);
+    let Phase { p, q } = phases::phase_at(fx, fy);
     // Chosen by their place in an array, each is one load.
     let planes = [f, h, v, c];
-    let p = k.p;
-    let q = k.q;
-    let pw = cw + 2 * pad;
-    let x = coords::luma_at(x0, mvx) + pad;
-    let y = coords::luma_at(y0, mvy) + pad;
+    let Corner { pw, x, y } = place_of(cw, pad, block);
     let i = first_at(p, pw, x, y);
     if served::at_quarter(fx, fy) {
         let j = first_at(q, pw, x, y);
         let a = tail(planes[p.kind as usize], i);
         let b = tail(planes[q.kind as usize], j);
-        rows::average_block(a, b, pw, bw, bh, out);
-        return limits::DONE;
+        rows::average_block(a, b, pw, block.w, block.h, out);
+        return Ok(());
     }
     // Full and half phases name one anchor twice.
-    rows::copy_block(planes[p.kind as usize], i, pw, bw, bh, out);
-    limits::DONE
+    rows::copy_block(planes[p.kind as usize], i, pw, block.w, block.h, out);
+    Ok(())
 }

@@ -1,6 +1,0 @@
--- The call over the parts promises just this.
-use mir.Facts.{to_z-of_z}
-use Rattle.bundle.proofs.hpel_qpel_refs.Goals as goal
-
-pub returns : goal.returns
-returns c = simp (to_z-of_z c.ranges.mvx, to_z-of_z c.ranges.mvy) at c.hpel_qpel_refs.ensures
