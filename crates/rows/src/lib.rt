@@ -20,7 +20,8 @@ pub fn copy_block(v: View, size: Size, dst: &mut [u8])
     full::full_rows(v.samples, v.at, v.stride, size.w, size.h, dst);
 }
 
-// N averages. Sixteen are vector code, eight are not: the first N of sixteen lanes are loaded, and stored. Each is one move, since N is a literal; by `copy_from_slice` the lanes fall apart before they are vector code, which is four times slower.
+// N averages. Sixteen are vector code, eight are not: the first N of sixteen lanes are loaded, and stored, each by one move, since N is a literal.
+// Tried with `copy_from_slice` and slower: the lanes fall apart before they are vector code, and 8 by 8 takes 763 instructions in place of 113.
 fn average_row<const N: usize>(a: &[u8], b: &[u8], p: usize, dst: &mut [u8], o: usize)
     requires { (N ≤ 16) × (p + N ≤ length a.now) × (p + N ≤ length b.now) × (o + N ≤ length dst.old) }
     ensures { dst.new ≡ put dst.old o N (λ i. mean (get_or a.now (p + i) 0) (get_or b.now (p + i) 0)) }

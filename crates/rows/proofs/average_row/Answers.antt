@@ -1,10 +1,10 @@
 -- `rows::average_row`: the first of sixteen lanes, loaded, averaged and stored. Assumes nothing.
 use mathlib.Core.Path.{◌≡◌, ap, ap₂, ◌∙◌}
 use mathlib.Core.List.{List}
-use Prim.Native.Nat.{ℕ, ◌+◌, ◌≤◌, ◌<◌}
+use Prim.Native.Nat.{ℕ, ◌+◌, ◌≤◌}
 use native.Mathlib.Nat.{zero-add}
 use native.Mathlib.Omega.{arith}
-use lib.ListN.{length, get_or, length-replicate}
+use lib.ListN.{get_or, length-replicate}
 use Rattle.grid.specs.Block.{tab}
 use Rattle.grid.specs.Run.{put}
 use Rattle.grid.proofs.Fill.{put_ext, front_at, tab_at}
