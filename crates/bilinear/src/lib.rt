@@ -7,127 +7,94 @@ ghost use Rattle.grid.specs.Run.{put, narrow};
 ghost use Rattle.samples.specs.Bilinear.{chroma_sample};
 ghost use Rattle.samples.specs.Kernel.{window_at};
 
-use grid::lanes;
+use grid::{Size, View, lanes};
 use samples::taps;
 
-// The chroma sample of phase (fx, fy) whose two by two samples start at t[p].
-fn bilinear(t: &[u8], p: usize, ts: usize, fx: u16, fy: u16) -> u8
-    requires { (fx < 8) × (fy < 8) × (p + ts + 1 < length t.now) }
-    ensures { result ≡ chroma_sample fx fy (window_at t.now p ts 0 0) }
+// How far a block lies right of and below whole samples, in eighths.
+#[derive(Clone, Copy)]
+struct Fraction {
+    x: u16,
+    y: u16,
+}
+
+// The chroma sample in column x and row y of a view.
+fn sample(v: View, f: Fraction, x: usize, y: usize) -> u8
+    requires { (f.x < 8) × (f.y < 8) × (v.at + (y + 1) * v.stride + x + 1 < length v.samples.now) }
+    ensures { result ≡ chroma_sample f.x f.y (window_at v.entry.samples.now v.entry.at v.entry.stride x y) }
 {
-    let a = taps::wide(t[p]);
-    let b = taps::wide(t[p + 1]);
-    let c = taps::wide(t[p + ts]);
-    let d = taps::wide(t[p + ts + 1]);
-    (((8 - fx) * (8 - fy) * a + fx * (8 - fy) * b + (8 - fx) * fy * c + fx * fy * d + 32)
+    let p = v.at + y * v.stride + x;
+    let q = p + v.stride;
+    let a = taps::wide(v.samples[p]);
+    let b = taps::wide(v.samples[p + 1]);
+    let c = taps::wide(v.samples[q]);
+    let d = taps::wide(v.samples[q + 1]);
+    (((8 - f.x) * (8 - f.y) * a + f.x * (8 - f.y) * b + (8 - f.x) * f.y * c + f.x * f.y * d + 32)
         / 64) as u8
 }
 
-fn bilinear_lanes(t: &[u8], p: usize, ts: usize, fx: u16, fy: u16, z: &mut [u8])
-    requires { (fx < 8) × (fy < 8) × (p + ts + 9 ≤ length t.now) × (8 ≤ length z.old) }
-    ensures { z.new ≡ put z.old 0 8 (λ i. chroma_sample fx fy (window_at t.now (p + i) ts 0 0)) }
+// ROWS rows of eight lanes. Four rows in one loop body are vector code; eight samples alone are not: the compiler unrolls them first.
+fn fill<const ROWS: usize>(v: View, f: Fraction, z: &mut [u8])
+    requires { (8 * ROWS ≤ length z.old) × (f.x < 8) × (f.y < 8) × (v.at + ROWS * v.stride + 9 ≤ length v.samples.now) }
+    ensures { (j i : ℕ) → j < ROWS → i < 8 → get_or z.new (8 * j + i) 0 ≡ chroma_sample f.x f.y (window_at v.entry.samples.now v.entry.at v.entry.stride i j) }
 {
     for i in 0..8 {
-        z[i] = bilinear(t, p + i, ts, fx, fy);
+        for j in 0..ROWS {
+            z[8 * j + i] = sample(v, f, i, j);
+        }
     }
 }
 
-fn bilinear_row(t: &[u8], p: usize, ts: usize, fx: u16, fy: u16, n: usize, dst: &mut [u8], o: usize)
-    requires { (fx < 8) × (fy < 8) × (p + ts + 9 ≤ length t.now) × (n ≤ 8) × (o + n ≤ length dst.old) }
-    ensures { dst.new ≡ put dst.old o n (λ i. chroma_sample fx fy (window_at t.now (p + i) ts 0 0)) }
+// The first n lanes of each. One row is mostly two samples wide: a literal width makes the store one move.
+fn store<const ROWS: usize>(z: &[u8], n: usize, dst: &mut [u8], o: usize)
+    requires { (ROWS ≡ 4 → narrow n ≡ true) × ((ROWS ≡ 4 → ⊥) → ROWS ≡ 1) × (8 * ROWS ≤ length z.now) × (n ≤ 8) × (o + ROWS * n ≤ length dst.old) }
+    ensures { dst.new ≡ put dst.old o (ROWS * n) (by_rows n (λ c j. get_or z.now (8 * j + c) 0)) }
 {
-    let mut z = [0u8; 16];
-    bilinear_lanes(t, p, ts, fx, fy, &mut z);
-    lanes::store_two(&z, n, dst, o);
-}
-
-fn bilinear_rows(
-    t: &[u8],
-    p: usize,
-    ts: usize,
-    fx: u16,
-    fy: u16,
-    bw: usize,
-    bh: usize,
-    dst: &mut [u8],
-)
-    requires { (fx < 8) × (fy < 8) × (p + bh * ts + 9 ≤ length t.now) × (bw ≤ 8) × (bw * bh ≤ length dst.old) }
-    ensures { dst.new ≡ drawn dst.old bw bh (λ c r. chroma_sample fx fy (window_at t.now p ts c r)) }
-{
-    for r in 0..bh {
-        bilinear_row(t, p + r * ts, ts, fx, fy, bw, dst, r * bw);
-    }
-}
-
-// Four rows of eight samples: in one body they are vector code, eight samples alone are not.
-fn bilinear_four_lanes(t: &[u8], p: usize, ts: usize, fx: u16, fy: u16, z: &mut [u8])
-    requires { (fx < 8) × (fy < 8) × (p + 4 * ts + 9 ≤ length t.now) × (32 ≤ length z.old) }
-    ensures { (j i : ℕ) → j < 4 → i < 8 → get_or z.new (8 * j + i) 0 ≡ chroma_sample fx fy (window_at t.now (p + j * ts + i) ts 0 0) }
-{
-    for i in 0..8 {
-        z[i] = bilinear(t, p + i, ts, fx, fy);
-        z[8 + i] = bilinear(t, p + ts + i, ts, fx, fy);
-        z[16 + i] = bilinear(t, p + 2 * ts + i, ts, fx, fy);
-        z[24 + i] = bilinear(t, p + 3 * ts + i, ts, fx, fy);
-    }
-}
-
-fn bilinear_four(
-    t: &[u8],
-    p: usize,
-    ts: usize,
-    fx: u16,
-    fy: u16,
-    n: usize,
-    dst: &mut [u8],
-    o: usize,
-)
-    requires { (fx < 8) × (fy < 8) × (p + 4 * ts + 9 ≤ length t.now) × (narrow n ≡ true) × (o + 4 * n ≤ length dst.old) }
-    ensures { dst.new ≡ put dst.old o (4 * n) (by_rows n (λ c r. chroma_sample fx fy (window_at t.now p ts c r))) }
-{
-    let mut z = [0u8; 32];
-    bilinear_four_lanes(t, p, ts, fx, fy, &mut z);
-    lanes::store_four(&z, n, dst, o);
-}
-
-fn bilinear_fours(
-    t: &[u8],
-    p: usize,
-    ts: usize,
-    fx: u16,
-    fy: u16,
-    bw: usize,
-    bh: usize,
-    dst: &mut [u8],
-)
-    requires { (fx < 8) × (fy < 8) × (p + bh * ts + 9 ≤ length t.now) × (narrow bw ≡ true) × (bh % 4 ≡ 0) × (bw * bh ≤ length dst.old) }
-    ensures { dst.new ≡ drawn dst.old bw bh (λ c r. chroma_sample fx fy (window_at t.now p ts c r)) }
-{
-    for k in 0..bh / 4 {
-        let r = 4 * k;
-        bilinear_four(t, p + r * ts, ts, fx, fy, bw, dst, r * bw);
-    }
-}
-
-// The chroma block of a phase, whose first sample's two by two start at t[p].
-pub fn chroma_block(
-    t: &[u8],
-    p: usize,
-    ts: usize,
-    fx: usize,
-    fy: usize,
-    bw: usize,
-    bh: usize,
-    dst: &mut [u8],
-)
-    requires { (fx < 8) × (fy < 8) × (p + bh * ts + 9 ≤ length t.now) × (bw ≤ 8) × (bw * bh ≤ length dst.old) }
-    ensures { dst.new ≡ drawn dst.old bw bh (λ c r. chroma_sample fx fy (window_at t.now p ts c r)) }
-{
-    let x = fx as u16;
-    let y = fy as u16;
-    if lanes::is_narrow(bw) & (bh % 4 == 0) {
-        bilinear_fours(t, p, ts, x, y, bw, bh, dst);
+    if ROWS == 4 {
+        lanes::store_four(z, n, dst, o);
         return;
     }
-    bilinear_rows(t, p, ts, x, y, bw, bh, dst);
+    if n == 2 {
+        grid::copy_run(z, 0, 2, dst, o);
+        return;
+    }
+    grid::copy_run(z, 0, n, dst, o);
+}
+
+// A block by ROWS rows at a time: by four, if it is eight or four samples wide, or by one. More LANES than they have would be cleared for nothing.
+fn by_groups<const ROWS: usize, const LANES: usize>(
+    v: View,
+    f: Fraction,
+    size: Size,
+    dst: &mut [u8],
+)
+    requires grouped { (LANES ≡ 8 * ROWS) × (1 ≤ ROWS) × (ROWS ≡ 4 → narrow size.w ≡ true) × ((ROWS ≡ 4 → ⊥) → ROWS ≡ 1) × (size.h % ROWS ≡ 0) }
+    requires within { (f.x < 8) × (f.y < 8) × (v.at + size.h * v.stride + 9 ≤ length v.samples.now) × (size.w ≤ 8) × (size.w * size.h ≤ length dst.old) }
+    ensures { dst.new ≡ drawn dst.old size.w size.h (λ c r. chroma_sample f.x f.y (window_at v.entry.samples.now v.entry.at v.entry.stride c r)) }
+{
+    for k in 0..size.h / ROWS {
+        let r = ROWS * k;
+        let first = View {
+            at: v.at + r * v.stride,
+            ..v
+        };
+        let mut z = [0u8; LANES];
+        fill::<ROWS>(first, f, &mut z);
+        store::<ROWS>(&z, size.w, dst, r * size.w);
+    }
+}
+
+// The chroma block of a phase, whose first sample's two by two are the view's first.
+pub fn chroma_block(v: View, fx: usize, fy: usize, size: Size, dst: &mut [u8])
+    requires { (fx < 8) × (fy < 8) × (v.at + size.h * v.stride + 9 ≤ length v.samples.now) × (size.w ≤ 8) × (size.w * size.h ≤ length dst.old) }
+    ensures { dst.new ≡ drawn dst.old size.w size.h (λ c r. chroma_sample fx fy (window_at v.entry.samples.now v.entry.at v.entry.stride c r)) }
+{
+    let f = Fraction {
+        x: fx as u16,
+        y: fy as u16,
+    };
+    if lanes::is_narrow(size.w) & (size.h % 4 == 0) {
+        by_groups::<4, 32>(v, f, size, dst);
+        return;
+    }
+    by_groups::<1, 8>(v, f, size, dst);
 }

@@ -6,100 +6,71 @@ ghost use Rattle.grid.specs.Block.{drawn};
 ghost use Rattle.grid.specs.Run.{put, narrow};
 ghost use Rattle.samples.specs.Tap.{mean};
 
-use grid::lanes;
+use grid::{Size, View};
 use kernels::full;
 
-pub fn copy_block(t: &[u8], p: usize, ts: usize, bw: usize, bh: usize, dst: &mut [u8])
-    requires { (p + (bh - 1) * ts + bw ≤ length t.now) × (1 ≤ bw) × (bw ≤ 16) × (bw * bh ≤ length dst.old) }
-    ensures { dst.new ≡ drawn dst.old bw bh (λ x y. get_or t.now (p + y * ts + x) 0) }
+pub fn copy_block(v: View, size: Size, dst: &mut [u8])
+    requires { (v.at + (size.h - 1) * v.stride + size.w ≤ length v.samples.now) × (1 ≤ size.w) × (size.w ≤ 16) × (size.w * size.h ≤ length dst.old) }
+    ensures { dst.new ≡ drawn dst.old size.w size.h (λ x y. get_or v.entry.samples.now (v.entry.at + y * v.entry.stride + x) 0) }
 {
-    if full::is_copied(bw) {
-        full::full_block(t, p, ts, bw, bh, dst);
+    if full::is_copied(size.w) {
+        full::full_block(v.samples, v.at, v.stride, size.w, size.h, dst);
         return;
     }
-    full::full_rows(t, p, ts, bw, bh, dst);
+    full::full_rows(v.samples, v.at, v.stride, size.w, size.h, dst);
 }
 
-fn average_row(a: &[u8], b: &[u8], p: usize, n: usize, dst: &mut [u8], o: usize)
-    requires { (n ≤ 16) × (p + n ≤ length a.now) × (p + n ≤ length b.now) × (o + n ≤ length dst.old) }
-    ensures { dst.new ≡ put dst.old o n (λ i. mean (get_or a.now (p + i) 0) (get_or b.now (p + i) 0)) }
-{
-    let mut z = [0u8; 16];
-    average::mean_lanes(a, p, b, p, n, &mut z);
-    lanes::store(&z, n, dst, o);
-}
-
-fn average_rows(a: &[u8], b: &[u8], ts: usize, bw: usize, bh: usize, dst: &mut [u8])
-    requires { ((bh - 1) * ts + bw ≤ length a.now) × ((bh - 1) * ts + bw ≤ length b.now) × (bw ≤ 16) × (bw * bh ≤ length dst.old) }
-    ensures { dst.new ≡ drawn dst.old bw bh (λ x y. mean (get_or a.now (y * ts + x) 0) (get_or b.now (y * ts + x) 0)) }
-{
-    for r in 0..bh {
-        average_row(a, b, r * ts, bw, dst, r * bw);
-    }
-}
-
-// The first n of sixteen lanes, by a literal width, so that each is one move.
-fn load_narrow(t: &[u8], p: usize, n: usize, x: &mut [u8; 16])
-    requires { (narrow n ≡ true) × (p + n ≤ length t.now) }
-    ensures { x.new ≡ put x.old 0 n (λ i. get_or t.now (p + i) 0) }
-{
-    if n == 8 {
-        grid::copy_run(t, p, 8, x, 0);
-        return;
-    }
-    grid::copy_run(t, p, 4, x, 0);
-}
-
-// Sixteen averages are vector code, eight are not: the first eight or four of sixteen lanes are loaded, and stored.
-fn average_narrow_row(a: &[u8], b: &[u8], p: usize, n: usize, dst: &mut [u8], o: usize)
-    requires { (narrow n ≡ true) × (p + n ≤ length a.now) × (p + n ≤ length b.now) × (o + n ≤ length dst.old) }
-    ensures { dst.new ≡ put dst.old o n (λ i. mean (get_or a.now (p + i) 0) (get_or b.now (p + i) 0)) }
+// N averages. Sixteen are vector code, eight are not: the first N of sixteen lanes are loaded, and stored, each by one move, since N is a literal.
+// Tried with `copy_from_slice` and slower: the lanes fall apart before they are vector code, and 8 by 8 takes 763 instructions in place of 113.
+fn average_row<const N: usize>(a: &[u8], b: &[u8], p: usize, dst: &mut [u8], o: usize)
+    requires { (N ≤ 16) × (p + N ≤ length a.now) × (p + N ≤ length b.now) × (o + N ≤ length dst.old) }
+    ensures { dst.new ≡ put dst.old o N (λ i. mean (get_or a.now (p + i) 0) (get_or b.now (p + i) 0)) }
 {
     let mut x = [0u8; 16];
     let mut y = [0u8; 16];
-    load_narrow(a, p, n, &mut x);
-    load_narrow(b, p, n, &mut y);
+    grid::copy_run(a, p, N, &mut x, 0);
+    grid::copy_run(b, p, N, &mut y, 0);
     let mut z = [0u8; 16];
-    average::mean_lanes(&x, 0, &y, 0, 16, &mut z);
-    lanes::store_narrow(&z, n, dst, o);
+    average::mean_lanes(&x, &y, &mut z);
+    grid::copy_run(&z, 0, N, dst, o);
 }
 
-fn average_narrow(a: &[u8], b: &[u8], ts: usize, bw: usize, bh: usize, dst: &mut [u8])
-    requires { ((bh - 1) * ts + bw ≤ length a.now) × ((bh - 1) * ts + bw ≤ length b.now) × (narrow bw ≡ true) × (bw * bh ≤ length dst.old) }
-    ensures { dst.new ≡ drawn dst.old bw bh (λ x y. mean (get_or a.now (y * ts + x) 0) (get_or b.now (y * ts + x) 0)) }
+fn average_rows<const N: usize>(a: &[u8], b: &[u8], stride: usize, h: usize, dst: &mut [u8])
+    requires { (N ≤ 16) × ((h - 1) * stride + N ≤ length a.now) × ((h - 1) * stride + N ≤ length b.now) × (N * h ≤ length dst.old) }
+    ensures { dst.new ≡ drawn dst.old N h (λ x y. mean (get_or a.now (y * stride + x) 0) (get_or b.now (y * stride + x) 0)) }
 {
-    for r in 0..bh {
-        average_narrow_row(a, b, r * ts, bw, dst, r * bw);
+    for r in 0..h {
+        average_row::<N>(a, b, r * stride, dst, r * N);
     }
 }
 
 // The smallest block of the standard, without a loop, whose making would take longer than its rows.
-fn average_four(a: &[u8], b: &[u8], ts: usize, dst: &mut [u8])
-    requires { (3 * ts + 4 ≤ length a.now) × (3 * ts + 4 ≤ length b.now) × (16 ≤ length dst.old) }
-    ensures { dst.new ≡ drawn dst.old 4 4 (λ x y. mean (get_or a.now (y * ts + x) 0) (get_or b.now (y * ts + x) 0)) }
+fn average_four(a: &[u8], b: &[u8], stride: usize, dst: &mut [u8])
+    requires { (3 * stride + 4 ≤ length a.now) × (3 * stride + 4 ≤ length b.now) × (16 ≤ length dst.old) }
+    ensures { dst.new ≡ drawn dst.old 4 4 (λ x y. mean (get_or a.now (y * stride + x) 0) (get_or b.now (y * stride + x) 0)) }
 {
-    average_narrow_row(a, b, 0, 4, dst, 0);
-    average_narrow_row(a, b, ts, 4, dst, 4);
-    average_narrow_row(a, b, 2 * ts, 4, dst, 8);
-    average_narrow_row(a, b, 3 * ts, 4, dst, 12);
+    average_row::<4>(a, b, 0, dst, 0);
+    average_row::<4>(a, b, stride, dst, 4);
+    average_row::<4>(a, b, 2 * stride, dst, 8);
+    average_row::<4>(a, b, 3 * stride, dst, 12);
 }
 
-// The averages of two views, 4, 8 or 16 wide. The widths are told apart by their order, and stand as literals where they are used.
-pub fn average_block(a: &[u8], b: &[u8], ts: usize, bw: usize, bh: usize, dst: &mut [u8])
-    requires { ((narrow bw || eqb bw 16) ≡ true) × ((bh - 1) * ts + bw ≤ length a.now) × ((bh - 1) * ts + bw ≤ length b.now) × (bw * bh ≤ length dst.old) }
-    ensures { dst.new ≡ drawn dst.old bw bh (λ x y. mean (get_or a.now (y * ts + x) 0) (get_or b.now (y * ts + x) 0)) }
+// The averages of two planes, 4, 8 or 16 wide. The widths are told apart by their order, and stand as literals where they are used.
+pub fn average_block(a: &[u8], b: &[u8], stride: usize, size: Size, dst: &mut [u8])
+    requires { ((narrow size.w || eqb size.w 16) ≡ true) × ((size.h - 1) * stride + size.w ≤ length a.now) × ((size.h - 1) * stride + size.w ≤ length b.now) × (size.w * size.h ≤ length dst.old) }
+    ensures { dst.new ≡ drawn dst.old size.w size.h (λ x y. mean (get_or a.now (y * stride + x) 0) (get_or b.now (y * stride + x) 0)) }
 {
-    if bw < 8 {
-        if bh == 4 {
-            average_four(a, b, ts, dst);
+    if size.w < 8 {
+        if size.h == 4 {
+            average_four(a, b, stride, dst);
             return;
         }
-        average_narrow(a, b, ts, 4, bh, dst);
+        average_rows::<4>(a, b, stride, size.h, dst);
         return;
     }
-    if bw < 16 {
-        average_narrow(a, b, ts, 8, bh, dst);
+    if size.w < 16 {
+        average_rows::<8>(a, b, stride, size.h, dst);
         return;
     }
-    average_rows(a, b, ts, 16, bh, dst);
+    average_rows::<16>(a, b, stride, size.h, dst);
 }
