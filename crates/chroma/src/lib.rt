@@ -10,6 +10,7 @@ ghost use Rattle.chroma.specs.Chroma.{predicted_chroma};
 
 use place::area::{Aim, Area};
 use place::limits;
+use route::component::Chroma;
 use terms::block::Block;
 use terms::plane::Plane;
 use terms::refusal::Refusal;
@@ -27,7 +28,7 @@ fn predict(plane: Plane, block: Block, out: &mut [u8])
         h: plane.h,
     };
     let aim = Aim::of(block);
-    route::predict_chroma(area, aim, out);
+    route::predict::<Chroma, 8, 81>(area, aim, out);
 }
 
 // The block, moved by its vector in eighth samples, into out by rows.

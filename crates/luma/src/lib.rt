@@ -11,6 +11,7 @@ ghost use Rattle.luma.specs.Average.{row_refusal, row_mean};
 
 use place::area::{Aim, Area};
 use place::limits;
+use route::component::Luma;
 use terms::block::Block;
 use terms::plane::Plane;
 use terms::refusal::Refusal;
@@ -28,7 +29,7 @@ fn predict(plane: Plane, block: Block, out: &mut [u8])
         h: plane.h,
     };
     let aim = Aim::of(block);
-    route::predict_luma(area, aim, out);
+    route::predict::<Luma, 4, 441>(area, aim, out);
 }
 
 // The block, moved by its vector in quarter samples, into out by rows.

@@ -12,6 +12,7 @@ use margins::Geometry;
 use place::limits;
 use terms::block::Block;
 use terms::refusal::Refusal;
+use window::PaddedPlane;
 
 // What the scratch needs: a tile of 21 by 21 samples, and the anchors of a block of 16 by 16.
 pub const TILE: usize = 441;
@@ -54,9 +55,8 @@ pub fn mc_luma_padded(
         × (out.new ≡ after (answered result) out.old (drawn out.old block.w block.h (padded_luma padded.now g.stride g.pad g.pw g.ph block.x block.y block.w block.h block.mv.x block.mv.y))) }
 {
     limits::check_padded_block(limits::LUMA, padded.len(), g, block, out.len())?;
-    window::luma_block(
-        padded, g, block.x, block.y, block.w, block.h, block.mv.x, block.mv.y, out,
-    );
+    let plane = PaddedPlane { samples: padded, g };
+    window::luma_block(plane, block, out);
     Ok(())
 }
 
@@ -83,9 +83,8 @@ pub fn mc_luma_padded_slices(
         block,
         out.len(),
     )?;
-    window::luma_block_with(
-        tile, padded, g, block.x, block.y, block.w, block.h, block.mv.x, block.mv.y, out,
-    );
+    let plane = PaddedPlane { samples: padded, g };
+    window::luma_block_with(tile, plane, block, out);
     Ok(())
 }
 
@@ -100,9 +99,8 @@ pub fn mc_chroma_padded(
         × (out.new ≡ after (answered result) out.old (drawn out.old block.w block.h (padded_chroma padded.now g.stride g.pad g.pw g.ph block.x block.y block.w block.h block.mv.x block.mv.y))) }
 {
     limits::check_padded_block(limits::CHROMA, padded.len(), g, block, out.len())?;
-    window::chroma_block(
-        padded, g, block.x, block.y, block.w, block.h, block.mv.x, block.mv.y, out,
-    );
+    let plane = PaddedPlane { samples: padded, g };
+    window::chroma_block(plane, block, out);
     Ok(())
 }
 
@@ -122,8 +120,8 @@ pub fn mc_chroma_padded_pair(
     let source = pu.len().min(pv.len());
     let target = outu.len().min(outv.len());
     limits::check_padded_block(limits::CHROMA, source, g, block, target)?;
-    window::chroma_pair(
-        pu, pv, g, block.x, block.y, block.w, block.h, block.mv.x, block.mv.y, outu, outv,
-    );
+    let u = PaddedPlane { samples: pu, g };
+    let v = PaddedPlane { samples: pv, g };
+    window::chroma_pair(u, v, block, outu, outv);
     Ok(())
 }
