@@ -3,18 +3,17 @@ use mathlib.Core.Path.{◌≡◌, refl, sym, ap, ap₂, ◌∙◌}
 use mathlib.Core.List.{List, ◌++◌, append_assoc}
 use mathlib.Core.Logic.{⊎_elim}
 use Prim.Native.Nat.{ℕ, zero, suc, ◌+◌, ◌*◌, ◌-◌, ◌/◌, ◌≤◌, ◌<◌, min}
-use native.Mathlib.Nat.{add_assoc}
+use native.Mathlib.Nat.{add_assoc, zero-add}
 use native.Mathlib.Omega.{arith}
 use lib.ListN.{length, get_or, take, drop, replicate}
 use lib.Seq.{take_at, get_or-append-add, get_or-drop, drop-drop, drop-append-add}
-use mir.Syntax.{w8}
-use mir.Val.{Fits}
 use Rattle.signed.proofs.Diff.{lt_or_le}
 use Rattle.grid.specs.Block.{tab}
 use Rattle.grid.specs.Run.{put, from}
 use Rattle.grid.proofs.Fill.{tab_length, tab_ext, tab_add, front_at}
 use Rattle.samples.specs.Tap.{half, centre}
 use Rattle.samples.specs.Kernel.{biased, window_at, mid_at}
+use Rattle.samples.proofs.Rows.{window_at_lem}
 use Rattle.samples.proofs.Tap.{half_is, centre_is, biased_small}
 
 -- a run over the last j of the elements that stand, and r more
@@ -57,7 +56,7 @@ sums_twice t p ts w₀ first rest =
     rest ∙ ap (λ (l : List ℕ). put l 5 16 (sums t (p + 5) ts)) first ∙ put_over w₀ 5 11 5 (sums t p ts) (sums t (p + 5) ts) (λ i. simp add_assoc)
 
 -- a row w of m sums
-module _ (t : List ℕ) (p ts : ℕ) (byte : (k : ℕ) → Fits w8 (get_or t k 0)) (m : ℕ) {w : List ℕ} (w₀ : List ℕ) (whole : w ≡ put w₀ 0 m (sums t p ts)) where
+module _ (t : List ℕ) (p ts : ℕ) (byte : (k : ℕ) → get_or t k 0 < 256) (m : ℕ) {w : List ℕ} (w₀ : List ℕ) (whole : w ≡ put w₀ 0 m (sums t p ts)) where
   sum : (k : ℕ) → k < m → get_or w k 0 ≡ sums t p ts k
   sum k b = ap (λ (l : List ℕ). get_or l k 0) whole ∙ front_at w₀ m (sums t p ts) k b
 
@@ -97,3 +96,13 @@ module _ (t : List ℕ) (p ts : ℕ) (byte : (k : ℕ) → Fits w8 (get_or t k 0
   sums_small none k =
       ⊎_elim (λ (b : k < m). rw (sum k b) (biased_small (from t (p + k) ts) (λ j. omega (arith, byte (p + k + j * ts)))))
       (λ (b : m ≤ k). rw (ap (λ (l : List ℕ). get_or l k 0) whole ∙ put_past w₀ m (sums t p ts) k b ∙ none k) (omega arith)) (lt_or_le k m)
+
+-- two rows of lanes, by row and column
+pub two_rows : (z : List ℕ) (f : ℕ → ℕ → ℕ) → ((i : ℕ) → i < 8 → get_or z i 0 ≡ f i 0) → ((i : ℕ) → i < 8 → get_or z (8 + i) 0 ≡ f i 1) → (j k : ℕ) → j < 2 → k < 8 → get_or z (8 * j + k) 0 ≡ f k j
+two_rows z f a b zero k _ h = ap (λ (i : ℕ). get_or z i 0) (zero-add k) ∙ a k h
+two_rows z f a b (suc zero) k _ h = b k h
+two_rows z f a b (suc (suc j)) k h _ = absurd (omega arith)
+
+-- two names of one window
+pub centre_at : (t : List ℕ) (ts q p i r s : ℕ) → q + r * ts ≡ p + s * ts → centre 255 (window_at t q ts i r) ≡ centre 255 (window_at t p ts i s)
+centre_at t ts q p i r s e = ap (centre 255) (window_at_lem t ts q i r p i s (omega arith))

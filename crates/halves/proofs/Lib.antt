@@ -1,2 +1,2 @@
 -- Laws that proofs of this crate cite.
-mod Pairs
+mod Places

@@ -1,2 +1,3 @@
 -- Laws that proofs of this crate cite.
 mod Phases
+mod Turns

@@ -1,5 +1,5 @@
 -- The table of phases and the kernels: what the anchors of a phase other than (0, 0) can be, and where their samples stand. Assumes nothing.
-use mathlib.Core.Path.{◌≡◌, refl, sym, ap, ◌∙◌}
+use mathlib.Core.Path.{◌≡◌, refl, sym, ap, ap₂, subst, ◌∙◌}
 use mathlib.Core.Bool.{Bool, true, ◌&&◌}
 use mathlib.Core.List.{List, [], ◌∷◌}
 use Prim.Native.Nat.{ℕ, zero, suc, ◌+◌, ◌*◌, ◌-◌, ◌≤◌, ◌<◌}
@@ -7,7 +7,7 @@ use native.Mathlib.Nat.{mul-le-mul, mul-le-mul_right}
 use native.Mathlib.Omega.{arith}
 use lib.Dec.{leb, eqb}
 use lib.ListN.{get_or, length}
-use borrow.Author.Tests.{leb-true}
+use borrow.Author.Tests.{leb-true, eqb-true}
 use Rattle.grid.specs.Block.{drawn}
 use Rattle.grid.specs.Run.{from}
 use Rattle.grid.proofs.Fill.{drawn_at}
@@ -17,7 +17,7 @@ use Rattle.samples.specs.declared.phases.Phase.{Phase}
 use Rattle.samples.specs.Tap.{half, mean}
 use Rattle.samples.specs.Phase.{at, anchor, pair, phases, phase_of}
 use Rattle.samples.specs.Kernel.{window_at}
-use Rattle.samples.proofs.Reach.{both, at_across, at_down}
+use Rattle.samples.proofs.Reach.{both, Near, phase_near, at_across, at_down}
 use Rattle.samples.proofs.Tap.{half_cong}
 
 -- ---- the table
@@ -80,9 +80,27 @@ sixteen = refl
 pub phase_fit : (fx fy : ℕ) → 1 ≤ fx + fy → fx < 4 → fy < 4 → Fit (phase_of fx fy)
 phase_fit fx fy a b c = later_fit_lem phases table_fit (fy * 4 + fx) (omega arith) (omega (arith, sixteen))
 
+-- an entry that was looked up
+pub near_of : (f : Phase) (fx fy : ℕ) → f ≡ phase_of fx fy → Near f.p × Near f.q
+near_of f fx fy e = rw e (phase_near fx fy)
+
+pub fit_of : (f : Phase) (fx fy : ℕ) → f ≡ phase_of fx fy → 1 ≤ fx + fy → fx < 4 → fy < 4 → Fit f
+fit_of f fx fy e a b c = subst Fit (sym e) (phase_fit fx fy a b c)
+
+-- anchors that the derived test finds equal are one
+pub same_anchor : (x y : Anchor) → eqb x.kind y.kind && (eqb x.dx y.dx && eqb x.dy y.dy) ≡ true → x ≡ y
+same_anchor x y e =
+    let t = both (eqb x.kind y.kind) (eqb x.dx y.dx && eqb x.dy y.dy) e in
+    let u = both (eqb x.dx y.dx) (eqb x.dy y.dy) t.1 in
+    let e₁ : x.kind ≡ y.kind = eqb-true _ _ t.0 in
+    let e₂ : x.dx ≡ y.dx = eqb-true _ _ u.0 in
+    let e₃ : x.dy ≡ y.dy = eqb-true _ _ u.1 in
+    let r : ◌≡◌ {A = Anchor} (record { kind = x.kind; dx = x.dx; dy = x.dy }) (record { kind = y.kind; dx = y.dx; dy = y.dy }) = cc in
+    r
+
 -- two centres are one anchor
 pub centres : (x y : Anchor) → x.kind ≡ 3 → y.kind ≡ 3 → x.dx + x.dy ≤ 2 * (3 - x.kind) → y.dx + y.dy ≤ 2 * (3 - y.kind)
-    → eqb x.kind y.kind && eqb x.dx y.dx && eqb x.dy y.dy ≡ true
+    → eqb x.kind y.kind && (eqb x.dx y.dx && eqb x.dy y.dy) ≡ true
 centres x y e f a b =
     let e₁ : x.dx ≡ 0 = omega arith in
     let e₂ : x.dy ≡ 0 = omega arith in
@@ -129,11 +147,20 @@ module _ (k : Anchor) (p ts q s : ℕ) (taps : Taps k p ts q s) (a : 1 ≤ k.kin
       half_cong 255 _ _ (λ i. let f : q + r * ts + c + i * s ≡ p + (r + i) * ts + (c + (2 + k.dx)) = omega (arith, h.0, ap (λ (n : ℕ). i * n) h.1) in ap (λ (x : ℕ). get_or t x 0) f)
       ∙ sym (at_down 255 (window_at t p ts c r) k e))
 
+  -- the same out of another list and stride that are these
+  pub half_there : (t u : List ℕ) (us : ℕ) → u ≡ t → us ≡ ts → (c r : ℕ) → half 255 (from u (q + r * us + c) s) ≡ anchor 255 (window_at t p ts c r) k
+  half_there t u us e f c r = ap₂ (λ (l : List ℕ) (n : ℕ). half 255 (from l (q + r * n + c) s)) e f ∙ half_at t c r
+
   -- the last row's taps lie within the window
   pub half_in : (h : ℕ) → 1 ≤ h → k.dx ≤ 1 → k.dy ≤ 1 → q + (h - 1) * ts + 16 + 5 * s ≤ p + (h + 4) * ts + 21
   half_in h l dx dy =
       let m : (h - 1) * ts + ts ≡ ts * h = last_row ts h l in
       by_kind _ (λ e. let t = taps.0 e in omega (arith, t, m, mul-le-mul_right ts dy)) (λ e. let t = taps.1 (down_not e) in omega (arith, t, m))
+
+-- the last row of full samples lies within the window
+pub full_in : (p ts h n dx dy : ℕ) → dx ≤ 1 → dy ≤ 1 → 1 ≤ h → p + (h + 4) * ts + 21 ≤ n
+    → ((2 + dy) * ts + p + 2 + dx + (h - 1) * ts + 16 ≤ n)
+full_in p ts h n dx dy a b c d = omega (arith, mul-le-mul_right ts b, last_row ts h c)
 
 -- ---- the local block: it has room, and sixteen lanes from its last row on; what was drawn into it is read back
 

@@ -4,7 +4,7 @@ ghost use Rattle.grid.specs.Block.{drawn};
 ghost use Rattle.grid.specs.Run.{put};
 ghost use Rattle.kernels.specs.Width.{copied};
 
-use grid::lanes;
+use grid::{Size, View, lanes};
 
 // By way of a local row, so that the row is one move whatever lies where.
 fn full_row(t: &[u8], p: usize, n: usize, dst: &mut [u8], o: usize)
@@ -17,18 +17,24 @@ fn full_row(t: &[u8], p: usize, n: usize, dst: &mut [u8], o: usize)
 }
 
 // Two rows a turn.
-pub fn full_rows(t: &[u8], p: usize, ts: usize, bw: usize, bh: usize, dst: &mut [u8])
-    requires { (p + (bh - 1) * ts + bw ≤ length t.now) × (1 ≤ bw) × (bw ≤ 16) × (bw * bh ≤ length dst.old) }
-    ensures { dst.new ≡ drawn dst.old bw bh (λ c r. get_or t.now (p + r * ts + c) 0) }
+pub fn full_rows(v: View, size: Size, dst: &mut [u8])
+    requires { (v.at + (size.h - 1) * v.stride + size.w ≤ length v.samples.now) × (1 ≤ size.w) × (size.w ≤ 16) × (size.w * size.h ≤ length dst.old) }
+    ensures { dst.new ≡ drawn dst.old size.w size.h (λ c r. get_or v.entry.samples.now (v.entry.at + r * v.entry.stride + c) 0) }
 {
-    let mut r = 0;
-    while r + 2 <= bh {
-        full_row(t, p + r * ts, bw, dst, r * bw);
-        full_row(t, p + r * ts + ts, bw, dst, r * bw + bw);
-        r += 2;
+    let View {
+        samples,
+        at,
+        stride,
+    } = v;
+    let Size { w, h } = size;
+    for k in 0..h / 2 {
+        let r = 2 * k;
+        full_row(samples, at + r * stride, w, dst, r * w);
+        full_row(samples, at + r * stride + stride, w, dst, r * w + w);
     }
-    if r < bh {
-        full_row(t, p + r * ts, bw, dst, r * bw);
+    if h % 2 == 1 {
+        let r = h - 1;
+        full_row(samples, at + r * stride, w, dst, r * w);
     }
 }
 
@@ -44,21 +50,15 @@ pub fn is_copied(bw: usize) -> bool
 }
 
 // A literal width makes each row one move, and nothing else here: an unknown width would have every call save its registers.
-pub fn full_block(t: &[u8], p: usize, ts: usize, bw: usize, bh: usize, dst: &mut [u8])
-    requires { (copied bw ≡ true) × (p + (bh - 1) * ts + bw ≤ length t.now) × (bw * bh ≤ length dst.old) }
-    ensures { dst.new ≡ drawn dst.old bw bh (λ c r. get_or t.now (p + r * ts + c) 0) }
+pub fn full_block(v: View, size: Size, dst: &mut [u8])
+    requires { (copied size.w ≡ true) × (v.at + (size.h - 1) * v.stride + size.w ≤ length v.samples.now) × (size.w * size.h ≤ length dst.old) }
+    ensures { dst.new ≡ drawn dst.old size.w size.h (λ c r. get_or v.entry.samples.now (v.entry.at + r * v.entry.stride + c) 0) }
 {
-    if bw == 16 {
-        full_rows(t, p, ts, 16, bh, dst);
-        return;
+    let h = size.h;
+    match size.w {
+        16 => full_rows(v, Size { w: 16, h }, dst),
+        8 => full_rows(v, Size { w: 8, h }, dst),
+        4 => full_rows(v, Size { w: 4, h }, dst),
+        _ => full_rows(v, Size { w: 2, h }, dst),
     }
-    if bw == 8 {
-        full_rows(t, p, ts, 8, bh, dst);
-        return;
-    }
-    if bw == 4 {
-        full_rows(t, p, ts, 4, bh, dst);
-        return;
-    }
-    full_rows(t, p, ts, 2, bh, dst);
 }

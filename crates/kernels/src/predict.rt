@@ -5,64 +5,54 @@ ghost use Rattle.samples.specs.Tap.{mean};
 ghost use Rattle.samples.specs.Phase.{anchor, luma_sample};
 ghost use Rattle.samples.specs.Kernel.{window_at};
 
+use grid::{Size, View};
+use halves::{Half, Mixed};
 use samples::phases;
 use samples::phases::Anchor;
 
-// The taps of a half anchor's first sample: where they start, and how far apart they lie.
-#[derive(Clone, Copy)]
-struct Taps {
-    at: usize,
-    apart: usize,
-}
-
-// Of a block whose window starts at p.
-fn taps_of(k: Anchor, p: usize, ts: usize) -> Taps
-    requires { (k.dx ≤ 1) × (k.dy ≤ 1) × (p + 4 * ts + 21 < 2 ^ 64) }
-    ensures { (k.kind ≡ 1 → (result.at ≡ p + (2 + k.dy) * ts) × (result.apart ≡ 1)) × ((k.kind ≡ 1 → ⊥) → (result.at ≡ p + 2 + k.dx) × (result.apart ≡ ts)) }
+// The half samples of an anchor, of a block whose window starts where the view does.
+fn half_of<'a>(k: Anchor, v: &View<'a>) -> Half<'a>
+    requires { (k.dx ≤ 1) × (k.dy ≤ 1) × (v.now.at + 4 * v.now.stride + 21 < 2 ^ 64) }
+    ensures { (k.kind ≡ 1 → (result.view.at ≡ v.now.at + (2 + k.dy) * v.now.stride) × (result.apart ≡ 1))
+        × ((k.kind ≡ 1 → ⊥) → (result.view.at ≡ v.now.at + 2 + k.dx) × (result.apart ≡ v.now.stride))
+        × (result.view.samples.now ≡ v.now.samples.now) × (result.view.stride ≡ v.now.stride) }
 {
     if k.kind == phases::ACROSS {
-        return Taps {
-            at: p + (2 + k.dy as usize) * ts,
+        let at = v.at + (2 + k.dy as usize) * v.stride;
+        return Half {
+            view: View { at, ..*v },
             apart: 1,
         };
     }
-    Taps {
-        at: p + 2 + k.dx as usize,
-        apart: ts,
+    let at = v.at + 2 + k.dx as usize;
+    Half {
+        view: View { at, ..*v },
+        apart: v.stride,
     }
 }
 
 // The samples of a half anchor or of the centre.
-fn anchor_block(k: Anchor, t: &[u8], p: usize, ts: usize, bw: usize, bh: usize, dst: &mut [u8])
-    requires { (1 ≤ k.kind) × (k.kind ≤ 3) × (k.dx ≤ 1) × (k.dy ≤ 1) × (p + (bh + 4) * ts + 21 ≤ length t.now) × (1 ≤ bh) × (bw ≤ 16) × (bw * bh ≤ length dst.old) }
-    ensures { dst.new ≡ drawn dst.old bw bh (λ c r. anchor 255 (window_at t.now p ts c r) k) }
+fn anchor_block(k: Anchor, v: &View, size: Size, dst: &mut [u8])
+    requires { (1 ≤ k.kind) × (k.kind ≤ 3) × (k.dx ≤ 1) × (k.dy ≤ 1) × (v.now.at + (size.h + 4) * v.now.stride + 21 ≤ length v.now.samples.now) × (1 ≤ size.h)
+        × (size.w ≤ 16) × (size.w * size.h ≤ length dst.old) }
+    ensures { dst.new ≡ drawn dst.old size.w size.h (λ c r. anchor 255 (window_at v.now.samples.now v.now.at v.now.stride c r) k) }
 {
     if k.kind == phases::CENTRE {
-        centre::luma_centre(t, p, ts, bw, bh, dst);
+        centre::luma_centre(*v, size, dst);
         return;
     }
-    let h = taps_of(k, p, ts);
-    halves::half_block(t, h.at, ts, h.apart, bw, bh, dst);
+    halves::half_block(half_of(k, v), size, dst);
 }
 
-// The averages of a half anchor's samples and of those from a[q] on, whose rows start qs apart.
-fn mixed_anchor(
-    k: Anchor,
-    t: &[u8],
-    p: usize,
-    ts: usize,
-    a: &[u8],
-    q: usize,
-    qs: usize,
-    bw: usize,
-    bh: usize,
-    dst: &mut [u8],
-)
-    requires { (1 ≤ k.kind) × (k.kind ≤ 2) × (k.dx ≤ 1) × (k.dy ≤ 1) × (p + (bh + 4) * ts + 21 ≤ length t.now) × (q + (bh - 1) * qs + 16 ≤ length a.now) × (1 ≤ bh) × (bw ≤ 16) × (bw * bh ≤ length dst.old) }
-    ensures { dst.new ≡ drawn dst.old bw bh (λ c r. mean (get_or a.now (q + r * qs + c) 0) (anchor 255 (window_at t.now p ts c r) k)) }
+// The averages of a half anchor's samples and of those that another view starts with.
+fn mixed_anchor(k: Anchor, v: &View, with: &View, size: Size, dst: &mut [u8])
+    requires { (1 ≤ k.kind) × (k.kind ≤ 2) × (k.dx ≤ 1) × (k.dy ≤ 1) × (v.now.at + (size.h + 4) * v.now.stride + 21 ≤ length v.now.samples.now)
+        × (with.now.at + (size.h - 1) * with.now.stride + 16 ≤ length with.now.samples.now) × (1 ≤ size.h) × (size.w ≤ 16) × (size.w * size.h ≤ length dst.old) }
+    ensures { dst.new ≡ drawn dst.old size.w size.h (λ c r. mean (get_or with.now.samples.now (with.now.at + r * with.now.stride + c) 0)
+        (anchor 255 (window_at v.now.samples.now v.now.at v.now.stride c r) k)) }
 {
-    let h = taps_of(k, p, ts);
-    halves::mixed_block(t, h.at, ts, h.apart, a, q, qs, bw, bh, dst);
+    let half = half_of(k, v);
+    halves::mixed_block(Mixed { half, with: *with }, size, dst);
 }
 
 // How far apart the rows of a local block start: the lanes that kernels fill.
@@ -74,55 +64,45 @@ fn lanes_of(bw: usize) -> usize
 }
 
 // Two anchors that are not full: x goes into a local block, and y is averaged with it.
-fn luma_between(
-    x: Anchor,
-    y: Anchor,
-    t: &[u8],
-    p: usize,
-    ts: usize,
-    bw: usize,
-    bh: usize,
-    dst: &mut [u8],
-)
-    requires { (1 ≤ x.kind) × (x.kind ≤ 3) × (x.dx ≤ 1) × (x.dy ≤ 1) × (1 ≤ y.kind) × (y.kind ≤ 2) × (y.dx ≤ 1) × (y.dy ≤ 1) × (p + (bh + 4) * ts + 21 ≤ length t.now) × (1 ≤ bh) × (bw ≤ 16) × (bh ≤ 16) × (bw * bh ≤ length dst.old) }
-    ensures { dst.new ≡ drawn dst.old bw bh (λ c r. mean (anchor 255 (window_at t.now p ts c r) x) (anchor 255 (window_at t.now p ts c r) y)) }
+fn luma_between(x: Anchor, y: Anchor, v: &View, size: Size, dst: &mut [u8])
+    requires { (1 ≤ x.kind) × (x.kind ≤ 3) × (x.dx ≤ 1) × (x.dy ≤ 1) × (1 ≤ y.kind) × (y.kind ≤ 2) × (y.dx ≤ 1) × (y.dy ≤ 1)
+        × (v.now.at + (size.h + 4) * v.now.stride + 21 ≤ length v.now.samples.now) × (1 ≤ size.h) × (size.w ≤ 16) × (size.h ≤ 16) × (size.w * size.h ≤ length dst.old) }
+    ensures { dst.new ≡ drawn dst.old size.w size.h (λ c r. mean (anchor 255 (window_at v.now.samples.now v.now.at v.now.stride c r) x)
+        (anchor 255 (window_at v.now.samples.now v.now.at v.now.stride c r) y)) }
 {
-    let k = lanes_of(bw);
+    let w = lanes_of(size.w);
     let mut a = [0u8; 256];
-    anchor_block(x, t, p, ts, k, bh, &mut a);
-    mixed_anchor(y, t, p, ts, &a, 0, k, bw, bh, dst);
+    anchor_block(x, v, Size { w, h: size.h }, &mut a);
+    let with = View {
+        samples: &a,
+        at: 0,
+        stride: w,
+    };
+    mixed_anchor(y, v, &with, size, dst);
 }
 
-// The luma block of a phase, whose window starts at t[p].
-pub fn luma_block(
-    t: &[u8],
-    p: usize,
-    ts: usize,
-    fx: usize,
-    fy: usize,
-    bw: usize,
-    bh: usize,
-    dst: &mut [u8],
-)
-    requires { (1 ≤ fx + fy) × (fx < 4) × (fy < 4) × (p + (bh + 4) * ts + 21 ≤ length t.now) × (1 ≤ bh) × (bw ≤ 16) × (bh ≤ 16) × (bw * bh ≤ length dst.old) }
-    ensures { dst.new ≡ drawn dst.old bw bh (λ c r. luma_sample 255 fx fy (window_at t.now p ts c r)) }
+// The luma block of a phase, whose window starts where the view does.
+pub fn luma_block(v: View, fx: usize, fy: usize, size: Size, dst: &mut [u8])
+    requires { (1 ≤ fx + fy) × (fx < 4) × (fy < 4) × (v.at + (size.h + 4) * v.stride + 21 ≤ length v.samples.now) × (1 ≤ size.h) × (size.w ≤ 16) × (size.h ≤ 16)
+        × (size.w * size.h ≤ length dst.old) }
+    ensures { dst.new ≡ drawn dst.old size.w size.h (λ c r. luma_sample 255 fx fy (window_at v.entry.samples.now v.entry.at v.entry.stride c r)) }
 {
     let f = phases::phase_at(fx, fy);
     let x = f.p;
     let y = f.q;
     // Half phases name one anchor twice.
-    if phases::one_anchor(x, y) {
-        anchor_block(x, t, p, ts, bw, bh, dst);
+    if x == y {
+        anchor_block(x, &v, size, dst);
         return;
     }
     if x.kind == phases::FULL {
-        let g = p + (2 + x.dy as usize) * ts + 2 + x.dx as usize;
-        mixed_anchor(y, t, p, ts, t, g, ts, bw, bh, dst);
+        let at = v.at + (2 + x.dy as usize) * v.stride + 2 + x.dx as usize;
+        mixed_anchor(y, &v, &View { at, ..v }, size, dst);
         return;
     }
     if y.kind == phases::CENTRE {
-        luma_between(y, x, t, p, ts, bw, bh, dst);
+        luma_between(y, x, &v, size, dst);
         return;
     }
-    luma_between(x, y, t, p, ts, bw, bh, dst);
+    luma_between(x, y, &v, size, dst);
 }
