@@ -52,7 +52,7 @@ fn is_off(at: usize, n: usize) -> bool
     requires { n ≤ 8192 }
     ensures { result ≡ off (sub_ℕ at (2 ^ 29)) n }
 {
-    (at < coords::LUMA_BASE) | (n + coords::LUMA_BASE <= at)
+    (at < coords::base::<4>()) | (n + coords::base::<4>() <= at)
 }
 
 fn count_off(x: usize, y: usize, w: usize, h: usize, bw: usize, bh: usize) -> u32
@@ -74,7 +74,7 @@ pub fn edge_count(w: usize, h: usize, block: Block) -> Result<u32, Refusal>
     ensures { edges result ≡ answer (edge_refusal w h block.x block.y block.w block.h) (outside_count w h block.x block.y block.w block.h block.mv.x block.mv.y) }
 {
     check_edge(w, h, block)?;
-    let x = coords::luma_at(block.x, block.mv.x);
-    let y = coords::luma_at(block.y, block.mv.y);
+    let x = coords::at::<4>(block.x, block.mv.x);
+    let y = coords::at::<4>(block.y, block.mv.y);
     Ok(count_off(x, y, w, h, block.w, block.h))
 }

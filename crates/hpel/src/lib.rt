@@ -16,6 +16,7 @@ ghost use Rattle.hpel.specs.Lookup.{first_at, in_order, ref_at, qpel_at};
 ghost use Rattle.hpel.specs.Answer.{plane_number, at_answer, pair_answer};
 ghost use Rattle.hpel.specs.Reading.{plane_of, contents, ref_tail, qpel_tails, hpel_sample};
 
+use grid::{Size, View};
 use place::coords;
 use samples::phases;
 use samples::phases::{Anchor, Phase};
@@ -135,7 +136,7 @@ fn first_at(a: Anchor, pw: usize, x: usize, y: usize) -> usize
     requires { (2 ^ 29 ≤ x) × (2 ^ 29 ≤ y) × (x ≤ 2 ^ 31) × (y ≤ 2 ^ 31) × (pw ≤ 8448) × (a.dx ≤ 1) × (a.dy ≤ 1) }
     ensures { result ≡ first_at a pw (sub_ℕ x (2 ^ 29)) (sub_ℕ y (2 ^ 29)) }
 {
-    (y - coords::LUMA_BASE + a.dy as usize) * pw + (x - coords::LUMA_BASE + a.dx as usize)
+    (y - coords::base::<4>() + a.dy as usize) * pw + (x - coords::base::<4>() + a.dx as usize)
 }
 
 fn in_order(k: Phase) -> Phase
@@ -177,8 +178,8 @@ fn place_of(cw: usize, pad: usize, block: Block) -> Corner
 {
     Corner {
         pw: cw + 2 * pad,
-        x: coords::luma_at(block.x, block.mv.x) + pad,
-        y: coords::luma_at(block.y, block.mv.y) + pad,
+        x: coords::at::<4>(block.x, block.mv.x) + pad,
+        y: coords::at::<4>(block.y, block.mv.y) + pad,
     }
 }
 
@@ -186,8 +187,8 @@ fn anchors(block: Block) -> Phase
     ensures { result ≡ phase_of (phase block.mv.x 4) (phase block.mv.y 4) }
 {
     phases::phase_at(
-        coords::luma_phase(block.mv.x),
-        coords::luma_phase(block.mv.y),
+        coords::phase::<4>(block.mv.x),
+        coords::phase::<4>(block.mv.y),
     )
 }
 
@@ -341,21 +342,30 @@ pub fn hpel_block<'a>(
         pad,
     };
     served::check_block(lent, block, out.len())?;
-    let fx = coords::luma_phase(block.mv.x);
-    let fy = coords::luma_phase(block.mv.y);
+    let fx = coords::phase::<4>(block.mv.x);
+    let fy = coords::phase::<4>(block.mv.y);
     let Phase { p, q } = phases::phase_at(fx, fy);
     // Chosen by their place in an array, each is one load.
     let planes = [f, h, v, c];
     let Corner { pw, x, y } = place_of(cw, pad, block);
+    let size = Size {
+        w: block.w,
+        h: block.h,
+    };
     let i = first_at(p, pw, x, y);
     if served::at_quarter(fx, fy) {
         let j = first_at(q, pw, x, y);
         let a = tail(planes[p.kind as usize], i);
         let b = tail(planes[q.kind as usize], j);
-        rows::average_block(a, b, pw, block.w, block.h, out);
+        rows::average_block(a, b, pw, size, out);
         return Ok(());
     }
     // Full and half phases name one anchor twice.
-    rows::copy_block(planes[p.kind as usize], i, pw, block.w, block.h, out);
+    let view = View {
+        samples: planes[p.kind as usize],
+        at: i,
+        stride: pw,
+    };
+    rows::copy_block(view, size, out);
     Ok(())
 }

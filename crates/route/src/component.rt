@@ -7,6 +7,7 @@ ghost use Rattle.samples.specs.Bilinear.{chroma_sample};
 ghost use Rattle.std.proofs.Common.{rules};
 ghost use Rattle.route.specs.Laws.{Sample, ReadsWithin, AtFull, TileHolds, luma_reads, luma_at_full, luma_fits, chroma_reads, chroma_at_full, chroma_fits};
 
+use grid::{Size, View};
 use kernels::predict;
 use place::area::Aim;
 
@@ -70,7 +71,13 @@ impl Component<4, 441> for Luma {
         requires { (1 ≤ aim.fx + aim.fy) × (at + (aim.h - 1 + 5) * stride + 21 ≤ length samples.now) × (aim.w * aim.h ≤ length out.old) }
         ensures { out.new ≡ drawn out.old aim.w aim.h (λ c r. luma_sample 255 aim.fx aim.fy (window_at samples.now at stride c r)) }
     {
-        predict::luma_block(samples, at, stride, aim.fx, aim.fy, aim.w, aim.h, out);
+        let view = View {
+            samples,
+            at,
+            stride,
+        };
+        let size = Size { w: aim.w, h: aim.h };
+        predict::luma_block(view, aim.fx, aim.fy, size, out);
     }
 }
 
@@ -103,6 +110,12 @@ impl Component<8, 81> for Chroma {
         requires { (1 ≤ aim.fx + aim.fy) × (at + (aim.h - 1 + 1) * stride + 9 ≤ length samples.now) × (aim.w * aim.h ≤ length out.old) }
         ensures { out.new ≡ drawn out.old aim.w aim.h (λ c r. chroma_sample aim.fx aim.fy (window_at samples.now at stride c r)) }
     {
-        bilinear::chroma_block(samples, at, stride, aim.fx, aim.fy, aim.w, aim.h, out);
+        let view = View {
+            samples,
+            at,
+            stride,
+        };
+        let size = Size { w: aim.w, h: aim.h };
+        bilinear::chroma_block(view, aim.fx, aim.fy, size, out);
     }
 }

@@ -8,6 +8,7 @@ ghost use Rattle.kernels.specs.Width.{copied};
 ghost use Rattle.route.specs.Area.{near_by, Lies};
 
 use crate::component::Component;
+use grid::{Size, View};
 use kernels::full;
 use place::area::{Aim, Area};
 use place::{coords, tiles};
@@ -88,7 +89,15 @@ pub fn full_from<const STEPS: usize>(
     ensures { out.new ≡ drawn out.old aim.entry.w aim.entry.h (λ c r. near_area area.entry.samples.now area.entry.at area.entry.stride area.entry.w area.entry.h (2 ^ 31 / STEPS) (aim.entry.x + c) (aim.entry.y + r)) }
 {
     match spot {
-        Some(at) => full::full_block(area.samples, at, area.stride, aim.w, aim.h, out),
+        Some(at) => {
+            let view = View {
+                samples: area.samples,
+                at,
+                stride: area.stride,
+            };
+            let size = Size { w: aim.w, h: aim.h };
+            full::full_block(view, size, out)
+        }
         None => tiles::tile_into(out, area, aim, 0, 0),
     }
 }

@@ -14,10 +14,10 @@ pub fn copy_block(v: View, size: Size, dst: &mut [u8])
     ensures { dst.new ≡ drawn dst.old size.w size.h (λ x y. get_or v.entry.samples.now (v.entry.at + y * v.entry.stride + x) 0) }
 {
     if full::is_copied(size.w) {
-        full::full_block(v.samples, v.at, v.stride, size.w, size.h, dst);
+        full::full_block(v, size, dst);
         return;
     }
-    full::full_rows(v.samples, v.at, v.stride, size.w, size.h, dst);
+    full::full_rows(v, size, dst);
 }
 
 // N averages. Sixteen are vector code, eight are not: the first N of sixteen lanes are loaded, and stored, each by one move, since N is a literal.

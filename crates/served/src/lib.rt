@@ -80,12 +80,12 @@ fn check_place(unserved: bool, lent: Lent, block: Block) -> Result<(), Refusal>
         return Err(Refusal::NotServed);
     }
     let x = num::wrapping_sub_usize(
-        coords::luma_at(block.x, block.mv.x) + lent.pad,
-        coords::LUMA_BASE,
+        coords::at::<4>(block.x, block.mv.x) + lent.pad,
+        coords::base::<4>(),
     );
     let y = num::wrapping_sub_usize(
-        coords::luma_at(block.y, block.mv.y) + lent.pad,
-        coords::LUMA_BASE,
+        coords::at::<4>(block.y, block.mv.y) + lent.pad,
+        coords::base::<4>(),
     );
     // n samples have room for n - b blocks of b samples and one to spare, at full and half phase too. A place before the plane wraps, and lies beyond every room.
     let across = (lent.cw + 2 * lent.pad).saturating_sub(block.w);
@@ -103,8 +103,8 @@ fn quarter(block: Block) -> bool
     ensures { result ≡ at_quarter (phase block.mv.x 4) (phase block.mv.y 4) }
 {
     at_quarter(
-        coords::luma_phase(block.mv.x),
-        coords::luma_phase(block.mv.y),
+        coords::phase::<4>(block.mv.x),
+        coords::phase::<4>(block.mv.y),
     )
 }
 
@@ -138,8 +138,8 @@ pub fn check_block(lent: Lent, block: Block, out: usize) -> Result<(), Refusal>
     if out < block.w * block.h {
         return Err(Refusal::ShortOutput);
     }
-    let fx = coords::luma_phase(block.mv.x);
-    let fy = coords::luma_phase(block.mv.y);
+    let fx = coords::phase::<4>(block.mv.x);
+    let fy = coords::phase::<4>(block.mv.y);
     check_place(at_full(fx, fy), lent, block)?;
     if at_quarter(fx, fy) & bad_width(block.w) {
         return Err(Refusal::NotServed);
