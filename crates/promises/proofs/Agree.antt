@@ -13,7 +13,7 @@ use Rattle.luma.specs.Luma.{predicted_luma}
 use Rattle.luma.proofs.mc_luma.Reads as plain
 use Rattle.padded.proofs.mc_luma_padded.Reads as padded
 use Rattle.padded.proofs.mc_luma_padded_slices.Reads as slices
-use Rattle.padded.proofs.Only.{Block, Lent, out}
+use Rattle.padded.proofs.Only.{Drawn, Lent, out}
 use Rattle.std.specs.Prelude.{Ok}
 use Rattle.lent.specs.Lent.{Predicted}
 use Rattle.hpel.proofs.Only.{Written}
@@ -25,7 +25,7 @@ use Rattle.promises.proofs.Routes.{asked_for, Draws, mc_luma_draws, mc_luma_padd
 
 -- the picture lent to the plain route, the block and its vector
 module _ (pic : Bor (List ℕ)) (w ht x0 y0 bw bh : ℕ) (mvx mvy : ℤ) where
-  abbrev margined : (pad stride : ℕ) (buf : Bor (List ℕ)) (o : MutBor (List ℕ)) → Block
+  abbrev margined : (pad stride : ℕ) (buf : Bor (List ℕ)) (o : MutBor (List ℕ)) → Drawn
   margined pad stride buf o = (buf, (record { stride = stride; pad = pad; pw = w; ph = ht }, (asked_for x0 y0 bw bh mvx mvy, (o, tt))))
 
   -- A ROUTE ANSWERED 0 for the block and left this output: the plain route; the padded one, with its own scratch, with lent slices
@@ -34,7 +34,7 @@ module _ (pic : Bor (List ℕ)) (w ht x0 y0 bw bh : ℕ) (mvx mvy : ℤ) where
     plainly : (κs : Lfts 2) (o : MutBor (List ℕ)) (s : _) → plain.Post κs (record { samples = pic; w = w; h = ht }, (asked_for x0 y0 bw bh mvx mvy, (o, tt))) (Ok tt) s
         → Answered s.1.1.0.now
     by_margins : (pad stride : ℕ) (buf : Bor (List ℕ)) (o : MutBor (List ℕ)) → Margins pic.now w ht pad stride buf.now
-        → (κs : Lfts 2) (s : Block) → padded.Post κs (margined pad stride buf o) (Ok tt) s → Answered (out s)
+        → (κs : Lfts 2) (s : Drawn) → padded.Post κs (margined pad stride buf o) (Ok tt) s → Answered (out s)
     by_slices : (pad stride : ℕ) (buf : Bor (List ℕ)) (o : MutBor (List ℕ)) → Margins pic.now w ht pad stride buf.now
         → (κs : Lfts 5) (tile a b : MutBor (List ℕ)) (s : Lent) → slices.Post κs (tile, (a, (b, margined pad stride buf o))) (Ok tt) s → Answered (out s.1.1.1)
     by_record : (pad stride : ℕ) (buf : List ℕ) → Margins pic.now w ht pad stride buf

@@ -19,7 +19,7 @@ use Rattle.luma.proofs.mc_luma.Reads as plain
 use Rattle.window.specs.Padded.{luma_direct, read_at, padded_luma}
 use Rattle.padded.proofs.mc_luma_padded.Reads as padded
 use Rattle.padded.proofs.mc_luma_padded_slices.Reads as slices
-use Rattle.padded.proofs.Only.{Block, Lent, out}
+use Rattle.padded.proofs.Only.{Drawn, Lent, out}
 use Rattle.lent.specs.Lent.{Predicted}
 use Rattle.promises.specs.Bound.{Within, NearMean, Bounded}
 use Rattle.promises.proofs.Bounds.{within, near_mean}
@@ -54,13 +54,13 @@ module _ (x0 y0 bw bh : ℕ) (mvx mvy : ℤ) where
 
   -- by a plane with margins: with its own scratch, with lent slices, and with a lent record
   module _ (g : Geometry) (buf : Bor (List ℕ)) (o : MutBor (List ℕ)) where
-    abbrev block : Block
+    abbrev block : Drawn
     block = (buf, (g, (asked_for, (o, tt))))
 
     abbrev reads : ℕ → ℕ → Window
     reads = padded_window buf.now g.stride g.pad g.pw g.ph
 
-    pub mc_luma_padded_bounded : (κs : Lfts 2) (s : Block) → padded.Post κs block (Ok tt) s → BoundedBlock reads (out s)
+    pub mc_luma_padded_bounded : (κs : Lfts 2) (s : Drawn) → padded.Post κs block (Ok tt) s → BoundedBlock reads (out s)
     unfolding padded_luma
     mc_luma_padded_bounded κs s a = drawn_bounded 255 _ _ bw bh _ o.now _ a.1
 

@@ -10,6 +10,10 @@ use lib.ListN.{length}
 use Rattle.grid.specs.Block.{drawn}
 use Rattle.place.specs.Outcome.{after}
 use Rattle.lent.specs.Lent.{Predicted}
+use Rattle.terms.proofs.Number.{one_answer}
+use Rattle.vectors.proofs.Only.{one_mv_answer}
+use Rattle.edge.proofs.Count.{one_edges}
+use Rattle.hpel.proofs.Answer.{one_at, one_pair}
 use Rattle.served.specs.Served.{block_refusal}
 use Rattle.hpel.specs.Lookup.{ref_at, qpel_at}
 use Rattle.hpel.specs.Reading.{contents, ref_tail, qpel_tails, hpel_sample}

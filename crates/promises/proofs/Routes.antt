@@ -23,9 +23,11 @@ use Rattle.window.specs.Padded.{padded_luma, slices_refusal}
 use Rattle.window.proofs.Standard.{luma_standard}
 use Rattle.padded.proofs.mc_luma_padded.Reads as padded
 use Rattle.padded.proofs.mc_luma_padded_slices.Reads as slices
-use Rattle.padded.proofs.Only.{Block, Lent, out}
+use Rattle.padded.proofs.Only.{Drawn, Lent, out}
 use Rattle.lent.specs.Lent.{Predicted}
 use Rattle.planes.proofs.Laws.{clamped}
+use Rattle.hpel.specs.declared.HpelAt.{HpelAt}
+use Rattle.hpel.specs.declared.HpelPair.{HpelPair}
 use Rattle.hpel.specs.declared.Spot.{Spot}
 use Rattle.hpel.specs.declared.Pair.{Pair}
 use Rattle.hpel.specs.Reading.{contents, hpel_sample}
@@ -72,10 +74,10 @@ module _ (x0 y0 bw bh : ℕ) (mvx mvy : ℤ) where
 
   -- with its own scratch, with lent slices, and with a lent record
   module _ (pic : List ℕ) (g : Geometry) (buf : Bor (List ℕ)) (o : MutBor (List ℕ)) (m : Margins pic g.pw g.ph g.pad g.stride buf.now) where
-    abbrev block : Block
+    abbrev block : Drawn
     block = (buf, (g, (asked_for, (o, tt))))
 
-    pub mc_luma_padded_draws : (κs : Lfts 2) (s : Block) → padded.Post κs block (Ok tt) s → Draws pic g.pw g.ph o.now (out s)
+    pub mc_luma_padded_draws : (κs : Lfts 2) (s : Drawn) → padded.Post κs block (Ok tt) s → Draws pic g.pw g.ph o.now (out s)
     mc_luma_padded_draws κs s a = margin_draws pic _ _ _ _ buf.now _ _ _ m (padded_block_ok 16 _ _ _ _ _ _ _ _ _ _ a.0).0 a.1
 
     pub mc_luma_padded_slices_draws : (κs : Lfts 5) (tile ga gb : MutBor (List ℕ)) (s : Lent) → slices.Post κs (tile, (ga, (gb, block))) (Ok tt) s
@@ -105,20 +107,20 @@ module _ (x0 y0 bw bh : ℕ) (mvx mvy : ℤ) where
     hpel_block_draws κs o s a = a.1 ∙ drawn_ext o.now bw bh _ _ (derived_sample (block_served _ _ _ _ w ht pad x0 y0 bw bh mvx mvy _ a.0))
 
     -- the views, read with the stride of the lookup that did not refuse
-    pub hpel_ref_reads : (κs : Lfts 1) (λs : Lfts 1) (k : HpelAt) (t : Bor (List ℕ)) (s s' : Read) → ref-at.Post κs (lent tt) k s → k.refusal ≡ 0
+    pub hpel_ref_reads : (κs : Lfts 1) (λs : Lfts 1) (k : Spot) (t : Bor (List ℕ)) (s s' : Read) → ref-at.Post κs (lent tt) (Ok k) s
         → ref.Post λs (lent tt) t s' → (x y : ℕ) → x < bw → y < bh → sample t.now k.stride x y ≡ predicted_luma pic w ht x0 y0 mvx mvy x y
-    hpel_ref_reads κs λs k t s s' a z b x y i j =
-        let o = sym (ap (λ (u : HpelAt). u.refusal) a) ∙ z in
+    hpel_ref_reads κs λs k t s s' a b x y i j =
+        let o = sym (ap (λ (u : HpelAt). u.refusal) a) in
         let n = ref_done _ _ _ _ w ht pad x0 y0 bw bh mvx mvy o in
         ap₂ (λ (l : List ℕ) (m : ℕ). sample l m x y) b (ap (λ (u : HpelAt). u.stride) a ∙ n.1)
         ∙ ref_view f.now h.now v.now c.now w ht pad x0 y0 bw bh mvx mvy x y o
         ∙ derived_sample (ref_served _ _ _ _ w ht pad x0 y0 bw bh mvx mvy n.0) x y i j
 
-    pub hpel_qpel_refs_reads : (κs : Lfts 1) (λs : Lfts 1) (k : HpelPair) (t : List (Bor (List ℕ))) (s s' : Read) → qpel-at.Post κs (lent tt) k s → k.refusal ≡ 0
+    pub hpel_qpel_refs_reads : (κs : Lfts 1) (λs : Lfts 1) (k : Pair) (t : List (Bor (List ℕ))) (s s' : Read) → qpel-at.Post κs (lent tt) (Ok k) s
         → qpel.Post λs (lent tt) t s' → (x y : ℕ) → x < bw → y < bh
         → mean (sample (get_or (contents t) 0 []) k.stride x y) (sample (get_or (contents t) 1 []) k.stride x y) ≡ predicted_luma pic w ht x0 y0 mvx mvy x y
-    hpel_qpel_refs_reads κs λs k t s s' a z b x y i j =
-        let o = sym (ap (λ (u : HpelPair). u.refusal) a) ∙ z in
+    hpel_qpel_refs_reads κs λs k t s s' a b x y i j =
+        let o = sym (ap (λ (u : HpelPair). u.refusal) a) in
         let n = qpel_done _ _ _ _ w ht pad x0 y0 bw bh mvx mvy o in
         ap₂ (λ (l : List (List ℕ)) (m : ℕ). mean (sample (get_or l 0 []) m x y) (sample (get_or l 1 []) m x y)) b (ap (λ (u : HpelPair). u.stride) a ∙ n.1)
         ∙ qpel_view f.now h.now v.now c.now w ht pad x0 y0 bw bh mvx mvy x y o

@@ -11,19 +11,18 @@ use Rattle.grid.specs.Block.{sample, by_rows, tab, block, drawn}
 use Rattle.place.specs.Picture.{sample_at, window}
 use Rattle.place.specs.Place.{luma_place}
 use Rattle.place.specs.Refusal.{lowest, plain_block_refusal}
-use Rattle.place.proofs.Refused.{plain_block_ok, padded_block_ok}
+use Rattle.place.proofs.Refused.{plain_block_ok, padded_block_ok, above_zero}
 use Rattle.std.specs.Prelude.{Ok, Err}
 use Rattle.terms.specs.declared.block.Block as asked
 use Rattle.terms.specs.declared.plane.Plane as given
 use Rattle.terms.specs.declared.refusal.Refusal.{Refusal}
 use Rattle.terms.specs.Refusal.{number_of}
-use Rattle.terms.proofs.Number.{refusal_is_not_done}
 use Rattle.samples.specs.Tap.{six_tap, clip, mean}
 use Rattle.samples.specs.Phase.{phases, phase_of, anchor, luma_sample}
 use Rattle.luma.specs.Luma.{predicted_luma}
 use Rattle.luma.proofs.mc_luma.Reads as mc-luma
 use Rattle.chroma.proofs.mc_chroma.Reads as mc-chroma
-use Rattle.padded.proofs.Only.{Block, Two}
+use Rattle.padded.proofs.Only.{Drawn, Two}
 use Rattle.padded.proofs.mc_luma_padded.Reads as mc-luma-padded
 use Rattle.padded.proofs.mc_chroma_padded.Reads as mc-chroma-padded
 use Rattle.padded.proofs.mc_chroma_padded_pair.Reads as mc-chroma-padded-pair
@@ -74,7 +73,7 @@ module _ (κs : Lfts 2) (pic : Bor (List ℕ)) (out : MutBor (List ℕ)) (a : pi
   unfolding plain_block_refusal lowest
   must_serve r c =
       let e : number_of r ≡ 0 = c.0 ∙ ap (λ (l : List ℕ). plain_block_refusal 16 (length l) 1 1 0 0 1 1 (length out.now)) a ∙ ap (λ (l : List ℕ). plain_block_refusal 16 1 1 1 0 0 1 1 (length l)) b in
-      refusal_is_not_done r e
+      above_zero r e
 
   pub must_write : mc-luma.Post κs (one pic out) (Ok tt) s → s.1.1.0.now ≡ 77 ∷ []
   unfolding drawn block tab by_rows predicted_luma luma_sample phases anchor mean window sample_at sample luma_place
@@ -90,10 +89,10 @@ mc_luma_has_all κs x s c = (plain_block_ok 16 _ _ _ _ _ _ _ _ c.0).0.src
 pub mc_chroma_has_all : (κs : Lfts 2) (x s : Passed) → mc-chroma.Post κs x (Ok tt) s → let p = x.0 in p.w * p.h ≤ length p.samples.now
 mc_chroma_has_all κs x s c = (plain_block_ok 8 _ _ _ _ _ _ _ _ c.0).0.src
 
-pub mc_luma_padded_has_all : (κs : Lfts 2) (x s : Block) → mc-luma-padded.Post κs x (Ok tt) s → let g = x.1.0 in g.stride * (g.ph + 2 * g.pad) ≤ length x.0.now
+pub mc_luma_padded_has_all : (κs : Lfts 2) (x s : Drawn) → mc-luma-padded.Post κs x (Ok tt) s → let g = x.1.0 in g.stride * (g.ph + 2 * g.pad) ≤ length x.0.now
 mc_luma_padded_has_all κs x s c = (padded_block_ok 16 _ _ _ _ _ _ _ _ _ _ c.0).0.src
 
-pub mc_chroma_padded_has_all : (κs : Lfts 2) (x s : Block) → mc-chroma-padded.Post κs x (Ok tt) s → let g = x.1.0 in g.stride * (g.ph + 2 * g.pad) ≤ length x.0.now
+pub mc_chroma_padded_has_all : (κs : Lfts 2) (x s : Drawn) → mc-chroma-padded.Post κs x (Ok tt) s → let g = x.1.0 in g.stride * (g.ph + 2 * g.pad) ≤ length x.0.now
 mc_chroma_padded_has_all κs x s c = (padded_block_ok 8 _ _ _ _ _ _ _ _ _ _ c.0).0.src
 
 pub mc_chroma_padded_pair_has_all : (κs : Lfts 4) (x s : Two) → mc-chroma-padded-pair.Post κs x (Ok tt) s

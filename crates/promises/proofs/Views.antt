@@ -11,8 +11,9 @@ use Rattle.grid.proofs.Fill.{drawn_sample}
 use Rattle.place.specs.Place.{phase}
 use Rattle.samples.specs.Tap.{mean}
 use Rattle.luma.specs.Luma.{predicted_luma}
-use Rattle.hpel.specs.declared.HpelAt.{HpelAt}
-use Rattle.hpel.specs.declared.HpelPair.{HpelPair}
+use Rattle.std.specs.Prelude.{Ok}
+use Rattle.hpel.specs.declared.Spot.{Spot}
+use Rattle.hpel.specs.declared.Pair.{Pair}
 use Rattle.hpel.specs.Reading.{contents}
 use Rattle.hpel.proofs.Only.{Read}
 use Rattle.hpel.proofs.hpel_ref_at.Reads as ref-at
@@ -30,21 +31,21 @@ module _ (pic : Bor (List ℕ)) (w ht x0 y0 bw bh : ℕ) (mvx mvy : ℤ) where
   abbrev lent : (pad : ℕ) (f h v c : Bor (List ℕ)) → Read
   lent pad f h v c = (f, (h, (v, (c, (w, (ht, (pad, (asked_for x0 y0 bw bh mvx mvy, tt))))))))
 
-  -- A VIEW, on planes derived from the picture, of a block whose lookup did not refuse, gives these samples by column and row:
+  -- A VIEW, on planes derived from the picture, of a block whose lookup found them, gives these samples by column and row:
   -- the tail, read with the lookup's stride, and the mean of two tails
   pub data Viewed : (ℕ → ℕ → ℕ) → Type 0 where
     by_tail : (pad : ℕ) (f h v c : Bor (List ℕ)) → Derived pic.now w ht pad f.now h.now v.now c.now
-        → (κs : Lfts 1) (λs : Lfts 1) (k : HpelAt) (t : Bor (List ℕ)) (s s' : Read) → ref-at.Post κs (lent pad f h v c) k s → k.refusal ≡ 0
+        → (κs : Lfts 1) (λs : Lfts 1) (k : Spot) (t : Bor (List ℕ)) (s s' : Read) → ref-at.Post κs (lent pad f h v c) (Ok k) s
         → ref.Post λs (lent pad f h v c) t s' → Viewed (sample t.now k.stride)
     by_tails : (pad : ℕ) (f h v c : Bor (List ℕ)) → Derived pic.now w ht pad f.now h.now v.now c.now
-        → (κs : Lfts 1) (λs : Lfts 1) (k : HpelPair) (t : List (Bor (List ℕ))) (s s' : Read) → qpel-at.Post κs (lent pad f h v c) k s → k.refusal ≡ 0
+        → (κs : Lfts 1) (λs : Lfts 1) (k : Pair) (t : List (Bor (List ℕ))) (s s' : Read) → qpel-at.Post κs (lent pad f h v c) (Ok k) s
         → qpel.Post λs (lent pad f h v c) t s'
         → Viewed (λ x y. mean (sample (get_or (contents t) 0 []) k.stride x y) (sample (get_or (contents t) 1 []) k.stride x y))
 
   -- THE STANDARD'S
   pub views_standard : (g : ℕ → ℕ → ℕ) → Viewed g → (x y : ℕ) → x < bw → y < bh → g x y ≡ predicted_luma pic.now w ht x0 y0 mvx mvy x y
-  views_standard g (by_tail pad f h v c d κs λs k t s s' a z b) = hpel_ref_reads x0 y0 bw bh mvx mvy pic.now f h v c w ht pad d κs λs k t s s' a z b
-  views_standard g (by_tails pad f h v c d κs λs k t s s' a z b) = hpel_qpel_refs_reads x0 y0 bw bh mvx mvy pic.now f h v c w ht pad d κs λs k t s s' a z b
+  views_standard g (by_tail pad f h v c d κs λs k t s s' a b) = hpel_ref_reads x0 y0 bw bh mvx mvy pic.now f h v c w ht pad d κs λs k t s s' a b
+  views_standard g (by_tails pad f h v c d κs λs k t s s' a b) = hpel_qpel_refs_reads x0 y0 bw bh mvx mvy pic.now f h v c w ht pad d κs λs k t s s' a b
 
   -- THE SAME BYTES as each route that answers for the block
   pub views_agree : (g : ℕ → ℕ → ℕ) (l : List ℕ) → Viewed g → Answered pic w ht x0 y0 bw bh mvx mvy l → (x y : ℕ) → x < bw → y < bh → g x y ≡ sample l bw x y

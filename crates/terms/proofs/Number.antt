@@ -1,5 +1,5 @@
 -- A number tells which refusal or answer it is. Assumes nothing.
-use Rattle.std.proofs.Common.{◌≡◌, refl, sym, ap, ◌∙◌, arith}
+use Rattle.std.proofs.Common.{◌≡◌, refl, sym, ap, ◌∙◌}
 use Rattle.std.specs.Prelude.{ℕ, zero, suc, Result, Ok, Err}
 use Rattle.terms.specs.declared.refusal.Refusal.{Refusal}
 use Rattle.terms.specs.declared.refusal.Refusal.TheVariants.{BadSide, ShortSource, BadBlock, BadPosition, ShortOutput, NotServed, BadReference}
@@ -44,12 +44,3 @@ one_refusal p q e = sym (is_refusal p) ∙ ap refusal_of e ∙ is_refusal q
 -- of a call that gives nothing but its answer
 pub one_answer : (p q : Result (Unit {0}) Refusal) → answered p ≡ answered q → p ≡ q
 one_answer p q e = sym (is_answer p) ∙ ap answer_of e ∙ is_answer q
-
-pub refusal_is_not_done : (e : Refusal) → number_of e ≡ 0 → ⊥
-refusal_is_not_done BadSide h = omega (arith, h)
-refusal_is_not_done ShortSource h = omega (arith, h)
-refusal_is_not_done BadBlock h = omega (arith, h)
-refusal_is_not_done BadPosition h = omega (arith, h)
-refusal_is_not_done ShortOutput h = omega (arith, h)
-refusal_is_not_done NotServed h = omega (arith, h)
-refusal_is_not_done BadReference h = omega (arith, h)
