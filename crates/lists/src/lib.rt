@@ -1,201 +1,194 @@
-// Reading the list: a place in the text goes in, and comes back with what was read there.
+// Reading the list: what is left of the text, which each reading shortens by what was read.
 #![tactic(auto)]
+
+ghost use Rattle.std.specs.Prelude.{◌≡◌, ◌<◌, ◌≤◌, ◌↔◌, length, Some, IfSome, IsTrue, slice_get, drop};
+
+use std::error::Error;
+use std::fmt;
 
 // The most numbers that a call or an answer has.
 pub const MOST: usize = 24;
 
+pub type Numbers = [usize; MOST];
+
+// Why no number was read.
+#[derive(Clone, Copy, Debug, PartialEq, Eq)]
+pub enum NumberError {
+    NoDigits,
+    TooLarge,
+    TooMany,
+}
+
+impl fmt::Display for NumberError {
+    fn fmt<W: fmt::Write>(&self, f: &mut fmt::Formatter<W>) -> fmt::Result {
+        f.write_str(match self {
+            NumberError::NoDigits => "no number",
+            NumberError::TooLarge => "a number that is not below 2^64",
+            NumberError::TooMany => "more than 24 numbers",
+        })
+    }
+}
+
+impl Error for NumberError {}
+
+// Numbers that break off: those before, with zeros behind them, and why there are no more.
+#[derive(Clone, Copy, Debug, PartialEq, Eq)]
+pub struct Broken {
+    pub read: Numbers,
+    pub why: NumberError,
+}
+
+// What is left of the text.
 #[derive(Clone, Copy)]
-pub struct Number {
-    pub value: usize,
-    pub next: usize,
-    pub ok: bool,
+pub struct Text<'a> {
+    pub rest: &'a [u8],
 }
 
-#[derive(Clone, Copy)]
-pub struct Numbers {
-    pub list: [usize; 24],
-    pub next: usize,
-    pub ok: bool,
+impl<'a> Text<'a> {
+    pub fn first(&self) -> Option<u8>
+        ensures { result ≡ slice_get self.now.rest.now 0 }
+    {
+        self.rest.first().copied()
+    }
+
+    // Past one byte, where one is left.
+    pub fn skip(&mut self)
+        ensures { self.new.rest.now ≡ drop 1 self.old.rest.now }
+    {
+        if let Some((_, rest)) = self.rest.split_first() {
+            self.rest = rest;
+        }
+    }
+
+    // Past the byte `mark`, where it is the next.
+    pub fn take(&mut self, mark: u8) -> bool
+        ensures found { IsTrue result ↔ (slice_get self.old.rest.now 0 ≡ Some mark) }
+        ensures left { length self.new.rest.now ≤ length self.old.rest.now }
+    {
+        let found = self.first() == Some(mark);
+        if found {
+            self.skip();
+        }
+        found
+    }
+
+    // Past a line that begins with `#` and ends.
+    pub fn take_comment(&mut self) -> bool
+        ensures { IsTrue result → length self.new.rest.now < length self.old.rest.now }
+    {
+        if self.first() != Some(b'#') {
+            return false;
+        }
+        let Some(end) = self.rest.iter().position(|b| *b == b'\n') else {
+            return false;
+        };
+        self.rest = &self.rest[end + 1..];
+        true
+    }
+
+    // A decimal number below 2^64. It has twenty digits at most, also where the first are zeros.
+    fn decimal(&mut self) -> Result<usize, NumberError>
+        ensures { length self.new.rest.now ≤ length self.old.rest.now }
+    {
+        let mut value = None;
+        for _ in 0..20u8 {
+            let Some(digit) = self.first().and_then(decimal_digit) else {
+                break;
+            };
+            value = Some(appended(value.unwrap_or(0), digit).ok_or(NumberError::TooLarge)?);
+            self.skip();
+        }
+        value.ok_or(NumberError::NoDigits)
+    }
+
+    // A number with its sign; below 0 it is kept as 2^64 less.
+    fn signed_number(&mut self) -> Result<usize, NumberError> {
+        if self.take(b'-') {
+            return Ok(0usize.wrapping_sub(self.decimal()?));
+        }
+        self.decimal()
+    }
+
+    fn read_numbers(&mut self, list: &mut Numbers) -> Result<(), NumberError> {
+        for number in list.iter_mut() {
+            *number = self.signed_number()?;
+            if !self.take(b' ') {
+                return Ok(());
+            }
+        }
+        Err(NumberError::TooMany)
+    }
+
+    // Numbers with a space between each two.
+    pub fn numbers(&mut self) -> Result<Numbers, Broken> {
+        let mut read = [0usize; MOST];
+        match self.read_numbers(&mut read) {
+            Ok(()) => Ok(read),
+            Err(why) => Err(Broken { read, why }),
+        }
+    }
+
+    // How often the byte before stands: `*` and a number and `.`, else once.
+    fn times(&mut self) -> Option<usize>
+        ensures { length self.new.rest.now ≤ length self.old.rest.now }
+    {
+        if !self.take(b'*') {
+            return Some(1);
+        }
+        let count = self.decimal().ok()?;
+        if self.take(b'.') { Some(count) } else { None }
+    }
+
+    // A byte in hexadecimal.
+    fn byte(&mut self) -> Option<u8>
+        ensures { IfSome result (λ _. length self.new.rest.now < length self.old.rest.now) }
+    {
+        let [high, low, rest @ ..] = self.rest else {
+            return None;
+        };
+        let byte = hexadecimal_digit(*high)? * 16 + hexadecimal_digit(*low)?;
+        self.rest = rest;
+        Some(byte)
+    }
+
+    // Bytes in hexadecimal, to the beginning of room, and how many; they end at what is no byte.
+    pub fn bytes(&mut self, room: &mut [u8]) -> Option<usize>
+        ensures { IfSome result (λ n. n ≤ length room.new) }
+    {
+        let mut filled = 0;
+        while let Some(byte) = self.byte() {
+            let count = self.times()?;
+            room.get_mut(filled..)?.get_mut(..count)?.fill(byte);
+            filled += count;
+        }
+        Some(filled)
+    }
 }
 
-// Up to where the buffer is filled, and what follows in the text.
-#[derive(Clone, Copy)]
-pub struct Read {
-    pub filled: usize,
-    pub next: usize,
-    pub ok: bool,
+fn decimal_digit(b: u8) -> Option<u8> {
+    if b.is_ascii_digit() {
+        Some(b - b'0')
+    } else {
+        None
+    }
 }
 
-const NOT_A_NUMBER: Number = Number {
-    value: 0,
-    next: 0,
-    ok: false,
-};
-
-// Past the end of the text stands 0, which no part of a list begins with.
-pub fn byte_at(s: &[u8], at: usize) -> u8 {
-    if at < s.len() { s[at] } else { 0 }
+// A digit's value in base 16, where letters are small.
+fn hexadecimal_digit(b: u8) -> Option<u8>
+    ensures { IfSome result (λ d. d < 16) }
+{
+    match b {
+        b'0'..=b'9' => Some(b - b'0'),
+        b'a'..=b'f' => Some(b - b'a' + 10),
+        _ => None,
+    }
 }
 
-pub fn past(s: &[u8], at: usize) -> usize {
-    if at < s.len() { at + 1 } else { at }
+fn appended(value: usize, digit: u8) -> Option<usize> {
+    value.checked_mul(10)?.checked_add(usize::from(digit))
 }
 
 // n bytes from `at` on; none where there are not so many.
 pub fn cut(s: &[u8], at: usize, n: usize) -> &[u8] {
-    if s.len() < at {
-        return &s[..0];
-    }
-    if s.len() - at < n {
-        return &s[..0];
-    }
-    &s[at..at + n]
-}
-
-// A digit's value, in base 10 or 16; 16 for what is none.
-fn digit(b: u8) -> usize {
-    if b < 48 {
-        return 16;
-    }
-    if b < 58 {
-        return (b - 48) as usize;
-    }
-    if b < 97 {
-        return 16;
-    }
-    if b < 103 {
-        return (b - 87) as usize;
-    }
-    16
-}
-
-// A decimal number; ok where it has digits and is below 2^64.
-fn decimal(s: &[u8], from: usize) -> Number {
-    let mut value = 0;
-    let mut at = from;
-    for _ in 0..20usize {
-        let d = digit(byte_at(s, at));
-        if 9 < d {
-            break;
-        }
-        if usize::MAX / 10 < value {
-            return NOT_A_NUMBER;
-        }
-        if usize::MAX - value * 10 < d {
-            return NOT_A_NUMBER;
-        }
-        value = value * 10 + d;
-        at = past(s, at);
-    }
-    Number {
-        value: value,
-        next: at,
-        ok: from < at,
-    }
-}
-
-// A number with its sign; below 0 it is kept as 2^64 less.
-fn signed_number(s: &[u8], at: usize) -> Number {
-    if byte_at(s, at) != b'-' {
-        return decimal(s, at);
-    }
-    let n = decimal(s, past(s, at));
-    Number {
-        value: std::num::wrapping_sub_usize(0, n.value),
-        next: n.next,
-        ok: n.ok,
-    }
-}
-
-// Numbers with a space between each two.
-pub fn read_numbers(s: &[u8], from: usize) -> Numbers {
-    let mut list = [0usize; 24];
-    let mut at = from;
-    for k in 0..MOST {
-        let n = signed_number(s, at);
-        at = n.next;
-        if !n.ok {
-            break;
-        }
-        list[k] = n.value;
-        if byte_at(s, at) != b' ' {
-            return Numbers {
-                list: list,
-                next: at,
-                ok: true,
-            };
-        }
-        at = past(s, at);
-    }
-    Numbers {
-        list: list,
-        next: at,
-        ok: false,
-    }
-}
-
-// How often the byte before stands: `*` and a number and `.`, else once.
-fn times(s: &[u8], at: usize) -> Number {
-    if byte_at(s, at) != b'*' {
-        return Number {
-            value: 1,
-            next: at,
-            ok: true,
-        };
-    }
-    let n = decimal(s, past(s, at));
-    Number {
-        value: n.value,
-        next: past(s, n.next),
-        ok: n.ok & (byte_at(s, n.next) == b'.'),
-    }
-}
-
-// A byte in hexadecimal; 256 where none stands.
-fn pair(s: &[u8], at: usize) -> usize {
-    let high = digit(byte_at(s, at));
-    let low = digit(byte_at(s, past(s, at)));
-    if 15 < high {
-        return 256;
-    }
-    if 15 < low {
-        return 256;
-    }
-    high * 16 + low
-}
-
-// Bytes in hexadecimal, into buf from `to` on; they end at what is no byte.
-pub fn read_bytes(s: &[u8], from: usize, buf: &mut [u8], to: usize) -> Read {
-    let most = buf.len();
-    let mut at = from;
-    let mut filled = to;
-    for _ in 0..s.len() {
-        let b = pair(s, at);
-        if 255 < b {
-            return Read {
-                filled: filled,
-                next: at,
-                ok: true,
-            };
-        }
-        let n = times(s, past(s, past(s, at)));
-        let count = n.value;
-        at = n.next;
-        if most < filled {
-            break;
-        }
-        if most - filled < count {
-            break;
-        }
-        if !n.ok {
-            break;
-        }
-        grid::fill_run(buf, filled, count, b as u8);
-        filled += count;
-    }
-    Read {
-        filled: filled,
-        next: at,
-        ok: false,
-    }
+    s.get(at..).and_then(|rest| rest.get(..n)).unwrap_or(&[])
 }
