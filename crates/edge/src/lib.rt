@@ -55,6 +55,7 @@ fn is_off(at: usize, n: usize) -> bool
     (at < coords::base::<4>()) | (n + coords::base::<4>() <= at)
 }
 
+// A loop and not a filter, whose closure would have to ask for all that is required here, for each k once more.
 fn count_off(x: usize, y: usize, w: usize, h: usize, bw: usize, bh: usize) -> u32
     requires { (x < 2 ^ 31) × (y < 2 ^ 31) × (w ≤ 8192) × (h ≤ 8192) × (1 ≤ bw) × (bw ≤ 16) × (bh ≤ 16) × (bw * bh ≤ 256) }
     ensures { result ≡ count (bw * bh) (λ k. off (sub_ℕ (x + k % bw) (2 ^ 29)) w || off (sub_ℕ (y + k / bw) (2 ^ 29)) h) }

@@ -1,16 +1,16 @@
 -- More laws of `put`: what lies beside it, when a list is one, and rows that are written from any place on. Assumes nothing.
 use mathlib.Core.Path.{◌≡◌, refl, sym, ap, ap₂, ◌∙◌}
 use mathlib.Core.List.{List, ◌++◌}
-use mathlib.Core.Logic.{◌⊎◌, ⊎_elim}
+use mathlib.Core.Logic.{◌⊎◌, inl, inr, ⊎_elim}
 use Prim.Native.Nat.{ℕ, ◌+◌, ◌*◌, ◌-◌, ◌≤◌, ◌<◌}
 use native.Mathlib.Nat.{mul-le-mul_right, zero-mul, le_antisymm}
 use native.Mathlib.Omega.{arith}
 use lib.ListN.{length, get_or, take, drop, length-append, get_or-append}
 use lib.Seq.{length-take-le, get_or-append-add, get_or-drop, get_or-take, ext_get_or}
-use Rattle.std.specs.List.{CopiedTo, SameBelow, SameFrom}
 use Rattle.signed.proofs.Diff.{lt_or_le}
 use Rattle.grid.specs.Block.{tab, by_rows}
 use Rattle.grid.specs.Run.{put}
+use Rattle.grid.proofs.Loop.{Filled}
 use Rattle.grid.proofs.Fill.{tab_length, put_length, put_at, put_zero, put_put, by_rows_at}
 
 module _ (d : List ℕ) (o n : ℕ) (g : ℕ → ℕ) (room : o + n ≤ length d) where
@@ -103,16 +103,22 @@ rows_at_done {d₀} {d} {o} {w} {h} {r} {f} inv b = inv.is ∙ ap (λ (k : ℕ).
 pub rows_at_at : (d : List ℕ) (o w h : ℕ) (f : ℕ → ℕ → ℕ) (c r : ℕ) → o ≤ length d → c < w → r < h → get_or (put d o (h * w) (by_rows w f)) (o + (r * w + c)) 0 ≡ f c r
 rows_at_at d o w h f c r b p q = put_at d o (h * w) (by_rows w f) (r * w + c) b (omega (arith, mul-le-mul_right w q)) ∙ by_rows_at w f c r p
 
--- a row apart from all rows that are written is as it was
+-- in a loop that stores elements from o on, what lies apart from them is as it was
+pub filled_rest : {d₀ d : List ℕ} {o n i : ℕ} {g : ℕ → ℕ} → Filled d₀ o n g i d → (k : ℕ) → (k < o) ⊎ (o + n ≤ k) → get_or d k 0 ≡ get_or d₀ k 0
+filled_rest {d₀} {d} {o} {n} {i} {g} inv k apart =
+    let room : o + i ≤ length d₀ = omega (arith, inv.upto, inv.room) in
+    ap (λ (l : List ℕ). get_or l k 0) inv.is
+    ∙ ⊎_elim (λ (h : k < o). put_before d₀ o i g room k h) (λ (h : o + n ≤ k). put_after d₀ o i g room k (omega (arith, inv.upto))) apart
+
+-- a run apart from another has each of its places apart from it
+pub each_apart : (from to n m : ℕ) → (from + n ≤ to) ⊎ (to + m ≤ from) → (i : ℕ) → i < n → (from + i < to) ⊎ (to + m ≤ from + i)
+each_apart from to n m apart i h = ⊎_elim (λ a. inl (omega arith)) (λ a. inr (omega arith)) apart
+
+-- the same of rows: a row apart from all of them lies apart from each, and is as it was
+pub row_apart : (from to w n r : ℕ) → r < n → (from + w ≤ to) ⊎ (to + n * w ≤ from) → (from + w ≤ to + r * w) ⊎ (to + r * w + w ≤ from)
+row_apart from to w n r h apart = ⊎_elim (λ a. inl (omega arith)) (λ a. inr (omega (arith, mul-le-mul_right w h))) apart
+
 pub rows_at_apart : {d₀ d : List ℕ} {o w h r : ℕ} {f : ℕ → ℕ → ℕ} → RowsAt d₀ o w h f r d → (from : ℕ) → (from + w ≤ o) ⊎ (o + h * w ≤ from)
     → (x : ℕ) → x < w → get_or d (from + x) 0 ≡ get_or d₀ (from + x) 0
 rows_at_apart {w = w} inv from apart x l =
     ⊎_elim (λ a. rows_at_front inv (from + x) (omega arith)) (λ a. rows_at_rest inv (from + x) (omega (arith, mul-le-mul_right w inv.upto))) apart
-
--- a run of m bytes that was copied within its list
-pub within_put : (d e : List ℕ) (from to m n : ℕ) → m ≡ n → to + n ≤ length d → length e ≡ length d → CopiedTo d e from to m → SameBelow d e to → SameFrom d e (to + m)
-    → e ≡ put d to n (λ i. get_or d (from + i) 0)
-within_put d e from to m n same room l copied below past =
-    put_is d to n _ room e l (λ i h. below i 0 h)
-    (λ i h. let s : from + (to + i - to) ≡ from + i = omega arith in copied (to + i) 0 (omega arith) (omega arith) ∙ ap (λ (k : ℕ). get_or d k 0) s)
-    (λ i h. past i 0 (omega arith))

