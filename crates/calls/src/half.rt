@@ -1,6 +1,8 @@
 // The calls on half-sample planes. A view is answered by its length and its first four bytes.
 use crate::{Request, answered};
+use hpel::{HpelAt, HpelPair};
 use lists::Numbers;
+use terms::refusal::Refusal;
 
 // The four planes of a picture of cw by ch samples, with pad samples around it.
 #[derive(Clone, Copy)]
@@ -30,19 +32,15 @@ impl<'a> Planes<'a> {
 
 pub fn hpel_ref_at(a: Request) -> Numbers {
     let p = Planes::of(a);
-    let b = a.block(7);
-    let k = hpel::hpel_ref_at(
-        p.f, p.h, p.v, p.c, p.cw, p.ch, p.pad, b.x, b.y, b.w, b.h, b.mv.x, b.mv.y,
-    );
+    let spot = hpel::hpel_ref_at(p.f, p.h, p.v, p.c, p.cw, p.ch, p.pad, a.block(7));
+    let k = HpelAt::from(spot);
     answered(&[k.refusal as usize, k.plane as usize, k.offset, k.stride])
 }
 
 pub fn hpel_qpel_refs_at(a: Request) -> Numbers {
     let p = Planes::of(a);
-    let b = a.block(7);
-    let k = hpel::hpel_qpel_refs_at(
-        p.f, p.h, p.v, p.c, p.cw, p.ch, p.pad, b.x, b.y, b.w, b.h, b.mv.x, b.mv.y,
-    );
+    let pair = hpel::hpel_qpel_refs_at(p.f, p.h, p.v, p.c, p.cw, p.ch, p.pad, a.block(7));
+    let k = HpelPair::from(pair);
     answered(&[
         k.refusal as usize,
         k.plane_a as usize,
@@ -64,27 +62,20 @@ fn beginning(view: &[u8]) -> [usize; 5] {
 
 pub fn hpel_ref(a: Request) -> Numbers {
     let p = Planes::of(a);
-    let b = a.block(7);
-    let view = hpel::hpel_ref(
-        p.f, p.h, p.v, p.c, p.cw, p.ch, p.pad, b.x, b.y, b.w, b.h, b.mv.x, b.mv.y,
-    );
+    let view = hpel::hpel_ref(p.f, p.h, p.v, p.c, p.cw, p.ch, p.pad, a.block(7));
     answered(&beginning(view))
 }
 
 pub fn hpel_qpel_refs(a: Request) -> Numbers {
     let p = Planes::of(a);
-    let b = a.block(7);
-    let views = hpel::hpel_qpel_refs(
-        p.f, p.h, p.v, p.c, p.cw, p.ch, p.pad, b.x, b.y, b.w, b.h, b.mv.x, b.mv.y,
-    );
+    let views = hpel::hpel_qpel_refs(p.f, p.h, p.v, p.c, p.cw, p.ch, p.pad, a.block(7));
     let [n, i, j, k, l] = beginning(views[0]);
     let [o, q, r, s, t] = beginning(views[1]);
     answered(&[n, i, j, k, l, o, q, r, s, t])
 }
 
-pub fn hpel_block(a: Request, out: &mut [u8]) -> u32 {
+pub fn hpel_block(a: Request, out: &mut [u8]) -> Result<(), Refusal> {
     let p = Planes::of(a);
-    let b = a.block(7);
     hpel::hpel_block(
         p.f,
         p.h,
@@ -93,12 +84,7 @@ pub fn hpel_block(a: Request, out: &mut [u8]) -> u32 {
         p.cw,
         p.ch,
         p.pad,
-        b.x,
-        b.y,
-        b.w,
-        b.h,
-        b.mv.x,
-        b.mv.y,
+        a.block(7),
         a.lent(19, out),
     )
 }

@@ -7,10 +7,12 @@ pub mod call;
 mod half;
 
 use call::Call;
+use edge::Edges;
 use lists::Numbers;
-use margins::Geometry;
 use terms::block::{Block, Mv};
-use vectors::{MvAnswer, MvNeighbor};
+use terms::plane::{Geometry, Plane};
+use terms::refusal::{Refusal, number};
+use vectors::{MvAnswer, MvNeighbor, Neighbors};
 
 // How long an output is: the largest that the list has is a plane of 257 by 257.
 pub const ROOM: usize = 66560;
@@ -37,6 +39,17 @@ impl<'a> Request<'a> {
         requires { k < 23 }
     {
         lists::cut(self.pictures, self.numbers[k], self.numbers[k + 1])
+    }
+
+    // The plane at argument k: its source, and its sides.
+    fn plane(&self, k: usize) -> Plane<'a>
+        requires { k < 21 }
+    {
+        Plane {
+            samples: self.source(k),
+            w: self.numbers[k + 2],
+            h: self.numbers[k + 3],
+        }
     }
 
     // The bytes of an output that argument k lends, or all where there are fewer.
@@ -88,11 +101,18 @@ impl<'a> Request<'a> {
     fn neighbour(&self, k: usize) -> MvNeighbor
         requires { k < 21 }
     {
-        let mv = self.vector(k + 1);
         MvNeighbor {
             available: self.numbers[k] == 1,
-            mv: vectors::Mv { x: mv.x, y: mv.y },
+            mv: self.vector(k + 1),
             ref_idx: self.signed(k + 3),
+        }
+    }
+
+    fn neighbors(&self) -> Neighbors {
+        Neighbors {
+            a: self.neighbour(2),
+            b: self.neighbour(6),
+            c: self.neighbour(10),
         }
     }
 }
@@ -121,11 +141,12 @@ fn answered(first: &[usize]) -> Numbers
 }
 
 // An answer of one number.
-fn only(refusal: u32) -> Numbers {
-    answered(&[refusal as usize])
+fn only(answer: Result<(), Refusal>) -> Numbers {
+    answered(&[number(answer) as usize])
 }
 
-fn vector_answer(m: MvAnswer) -> Numbers {
+fn vector_answer(answer: Result<Mv, Refusal>) -> Numbers {
+    let m = MvAnswer::from(answer);
     answered(&[m.refusal as usize, number_of(m.mv.x), number_of(m.mv.y)])
 }
 
@@ -134,24 +155,12 @@ fn median3(a: Request) -> Numbers {
 }
 
 fn predict_mv(a: Request) -> Numbers {
-    let m = vectors::predict_mv(
-        a.neighbour(2),
-        a.neighbour(6),
-        a.neighbour(10),
-        a.signed(14),
-    );
-    vector_answer(m)
+    vector_answer(vectors::predict_mv(a.neighbors(), a.signed(14)))
 }
 
 fn predict_partition_mv(a: Request) -> Numbers {
-    let m = vectors::predict_partition_mv(
-        low_byte(a.numbers[15]),
-        a.numbers[16],
-        a.neighbour(2),
-        a.neighbour(6),
-        a.neighbour(10),
-        a.signed(14),
-    );
+    let mode = low_byte(a.numbers[15]);
+    let m = vectors::predict_partition_mv(mode, a.numbers[16], a.neighbors(), a.signed(14));
     vector_answer(m)
 }
 
@@ -164,58 +173,24 @@ fn inter_partitions(a: Request) -> Numbers {
 }
 
 fn edge_count(a: Request) -> Numbers {
-    let b = a.block(4);
-    let e = edge::edge_count(
-        a.numbers[2],
-        a.numbers[3],
-        b.x,
-        b.y,
-        b.w,
-        b.h,
-        b.mv.x,
-        b.mv.y,
-    );
+    let e = Edges::from(edge::edge_count(a.numbers[2], a.numbers[3], a.block(4)));
     answered(&[e.refusal as usize, e.count as usize])
 }
 
-fn mc_luma(a: Request, out: &mut [u8]) -> u32 {
-    let b = a.block(6);
-    luma::mc_luma(
-        a.source(2),
-        a.numbers[4],
-        a.numbers[5],
-        b.x,
-        b.y,
-        b.w,
-        b.h,
-        b.mv.x,
-        b.mv.y,
-        a.lent(12, out),
-    )
+fn mc_luma(a: Request, out: &mut [u8]) -> Result<(), Refusal> {
+    luma::mc_luma(a.plane(2), a.block(6), a.lent(12, out))
 }
 
-fn mc_chroma(a: Request, out: &mut [u8]) -> u32 {
-    let b = a.block(6);
-    chroma::mc_chroma(
-        a.source(2),
-        a.numbers[4],
-        a.numbers[5],
-        b.x,
-        b.y,
-        b.w,
-        b.h,
-        b.mv.x,
-        b.mv.y,
-        a.lent(12, out),
-    )
+fn mc_chroma(a: Request, out: &mut [u8]) -> Result<(), Refusal> {
+    chroma::mc_chroma(a.plane(2), a.block(6), a.lent(12, out))
 }
 
-fn avg_row_into(a: Request, out: &mut [u8]) -> u32 {
+fn avg_row_into(a: Request, out: &mut [u8]) -> Result<(), Refusal> {
     luma::avg_row_into(a.source(2), a.source(4), a.numbers[6], a.lent(7, out))
 }
 
 // The picture is copied to the output, which is changed in place; one that has no room stays as it is.
-fn expand_plane(a: Request, out: &mut [u8]) -> u32 {
+fn expand_plane(a: Request, out: &mut [u8]) -> Result<(), Refusal> {
     let picture = a.source(2);
     let buf = a.lent(3, out);
     if picture.len() <= buf.len() {
@@ -224,23 +199,11 @@ fn expand_plane(a: Request, out: &mut [u8]) -> u32 {
     margins::expand_plane(buf, a.geometry(4))
 }
 
-fn mc_luma_padded(a: Request, out: &mut [u8]) -> u32 {
-    let b = a.block(8);
-    padded::mc_luma_padded(
-        a.source(2),
-        a.geometry(4),
-        b.x,
-        b.y,
-        b.w,
-        b.h,
-        b.mv.x,
-        b.mv.y,
-        a.lent(14, out),
-    )
+fn mc_luma_padded(a: Request, out: &mut [u8]) -> Result<(), Refusal> {
+    padded::mc_luma_padded(a.source(2), a.geometry(4), a.block(8), a.lent(14, out))
 }
 
-fn mc_luma_padded_pre(a: Request, out: &mut [u8]) -> u32 {
-    let b = a.block(8);
+fn mc_luma_padded_pre(a: Request, out: &mut [u8]) -> Result<(), Refusal> {
     let mut tile = [0u8; 441];
     let mut p = [0u8; 256];
     let mut q = [0u8; 256];
@@ -249,67 +212,34 @@ fn mc_luma_padded_pre(a: Request, out: &mut [u8]) -> u32 {
         &mut p,
         &mut q,
         a.source(2),
-        a.numbers[4],
-        a.numbers[5],
-        a.numbers[6],
-        a.numbers[7],
-        b.x,
-        b.y,
-        b.w,
-        b.h,
-        b.mv.x,
-        b.mv.y,
-        a.lent(14, out),
-    )
-}
-
-fn mc_chroma_padded(a: Request, out: &mut [u8]) -> u32 {
-    let b = a.block(8);
-    padded::mc_chroma_padded(
-        a.source(2),
         a.geometry(4),
-        b.x,
-        b.y,
-        b.w,
-        b.h,
-        b.mv.x,
-        b.mv.y,
+        a.block(8),
         a.lent(14, out),
     )
 }
 
-fn mc_chroma_padded_pair(a: Request, out: &mut Outputs) -> u32 {
-    let b = a.block(8);
+fn mc_chroma_padded(a: Request, out: &mut [u8]) -> Result<(), Refusal> {
+    padded::mc_chroma_padded(a.source(2), a.geometry(4), a.block(8), a.lent(14, out))
+}
+
+fn mc_chroma_padded_pair(a: Request, out: &mut Outputs) -> Result<(), Refusal> {
     padded::mc_chroma_padded_pair(
         a.source(2),
         a.source(15),
         a.geometry(4),
-        b.x,
-        b.y,
-        b.w,
-        b.h,
-        b.mv.x,
-        b.mv.y,
+        a.block(8),
         a.lent(14, &mut out.o),
         a.lent(17, &mut out.p),
     )
 }
 
-fn pad_plane(a: Request, out: &mut [u8]) -> u32 {
-    planes::pad_plane(
-        a.source(2),
-        a.numbers[4],
-        a.numbers[5],
-        a.numbers[6],
-        a.lent(7, out),
-    )
+fn pad_plane(a: Request, out: &mut [u8]) -> Result<(), Refusal> {
+    planes::pad_plane(a.plane(2), a.numbers[6], a.lent(7, out))
 }
 
-fn build_hpel_planes(a: Request, out: &mut Outputs) -> u32 {
+fn build_hpel_planes(a: Request, out: &mut Outputs) -> Result<(), Refusal> {
     planes::build_hpel_planes(
-        a.source(2),
-        a.numbers[4],
-        a.numbers[5],
+        a.plane(2),
         a.numbers[6],
         a.lent(7, &mut out.o),
         a.lent(8, &mut out.p),

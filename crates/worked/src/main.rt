@@ -4,11 +4,12 @@
 use margins::Geometry;
 use terms::block::{Block, Mv};
 use terms::plane::Plane;
-use vectors::MvNeighbor;
+use terms::refusal::{Refusal, number};
+use vectors::{MvNeighbor, Neighbors};
 
-// A case in a line: its name, the answer's number, and the value. One that does not go out is let go, and the run goes on.
-fn line(rt: &impl Print, name: &str, answer: u32, value: u32) {
-    let _ = println!(rt; "{name} {answer} {value:03}");
+// A case in a line: its name, the answer's number (0 done), and the value. One that does not go out is let go, and the run goes on.
+fn line(rt: &impl Print, name: &str, answer: Result<(), Refusal>, value: u32) {
+    let _ = println!(rt; "{name} {} {value:03}", number(answer));
 }
 
 // One sample at (x, y), moved by (mvx, mvy).
@@ -18,6 +19,17 @@ fn sample(x: usize, y: usize, mvx: i32, mvy: i32) -> Block {
         y,
         w: 1,
         h: 1,
+        mv: Mv { x: mvx, y: mvy },
+    }
+}
+
+// The 16 by 16 block at (0, 0), moved by (mvx, mvy).
+fn macroblock(mvx: i32, mvy: i32) -> Block {
+    Block {
+        x: 0,
+        y: 0,
+        w: 16,
+        h: 16,
         mv: Mv { x: mvx, y: mvy },
     }
 }
@@ -34,26 +46,19 @@ fn row(samples: &[u8]) -> Plane<'_> {
 // One luma sample.
 fn luma(rt: &impl Print, name: &str, pic: Plane, b: Block) {
     let mut out = [0u8; 1];
-    let answer = luma::mc_luma(
-        pic.samples,
-        pic.w,
-        pic.h,
-        b.x,
-        b.y,
-        b.w,
-        b.h,
-        b.mv.x,
-        b.mv.y,
-        &mut out,
-    );
+    let answer = luma::mc_luma(pic, b, &mut out);
     line(rt, name, answer, u32::from(out[0]));
 }
 
 // One chroma sample of the picture 0 64 over 128 192.
 fn chroma(rt: &impl Print, name: &str, mvx: i32, mvy: i32) {
     let mut out = [0u8; 1];
-    let pic = [0, 64, 128, 192];
-    let answer = chroma::mc_chroma(&pic, 2, 2, 0, 0, 1, 1, mvx, mvy, &mut out);
+    let pic = Plane {
+        samples: &[0, 64, 128, 192],
+        w: 2,
+        h: 2,
+    };
+    let answer = chroma::mc_chroma(pic, sample(0, 0, mvx, mvy), &mut out);
     line(rt, name, answer, u32::from(out[0]));
 }
 
@@ -74,8 +79,8 @@ fn every_phase(rt: &impl Print, v: u8) {
 }
 
 fn edges(rt: &impl Print, name: &str, mvx: i32, mvy: i32) {
-    let e = edge::edge_count(16, 16, 0, 0, 16, 16, mvx, mvy);
-    line(rt, name, e.refusal, e.count);
+    let e = edge::edge_count(16, 16, macroblock(mvx, mvy));
+    line(rt, name, e.map(|_| ()), e.unwrap_or(0));
 }
 
 // A picture of 16 by 16 with margins of 32.
@@ -99,7 +104,7 @@ fn black() -> [u8; 6400] {
 fn unfilled(rt: &impl Print, name: &str, ix: i32) {
     let buf = black();
     let mut out = [0u8; 256];
-    let answer = padded::mc_luma_padded(&buf, WIDE, 0, 0, 16, 16, ix, 0, &mut out);
+    let answer = padded::mc_luma_padded(&buf, WIDE, macroblock(ix, 0), &mut out);
     line(rt, name, answer, u32::from(out[0]));
     line(rt, name, answer, u32::from(out[255]));
 }
@@ -109,21 +114,25 @@ fn filled(rt: &impl Print, name: &str, ix: i32) {
     let mut buf = black();
     let done = margins::expand_plane(&mut buf, WIDE);
     let mut out = [0u8; 256];
-    let answer = padded::mc_luma_padded(&buf, WIDE, 0, 0, 16, 16, ix, 0, &mut out);
+    let answer = padded::mc_luma_padded(&buf, WIDE, macroblock(ix, 0), &mut out);
     line(rt, name, done, u32::from(out[0]));
     line(rt, name, answer, u32::from(out[255]));
 }
 
 // The last byte of the 16 by 16 block of a picture of 77, by way of its half-sample planes with 32 samples around them.
 fn from_planes(rt: &impl Print, name: &str, mvx: i32) {
-    let pic = [77u8; 256];
+    let pic = Plane {
+        samples: &[77u8; 256],
+        w: 16,
+        h: 16,
+    };
     let mut f = [0u8; 6400];
     let mut h = [0u8; 6400];
     let mut v = [0u8; 6400];
     let mut c = [0u8; 6400];
-    let built = planes::build_hpel_planes(&pic, 16, 16, 32, &mut f, &mut h, &mut v, &mut c);
+    let built = planes::build_hpel_planes(pic, 32, &mut f, &mut h, &mut v, &mut c);
     let mut out = [0u8; 256];
-    let answer = hpel::hpel_block(&f, &h, &v, &c, 16, 16, 32, 0, 0, 16, 16, mvx, 0, &mut out);
+    let answer = hpel::hpel_block(&f, &h, &v, &c, 16, 16, 32, macroblock(mvx, 0), &mut out);
     line(rt, name, built, u32::from(h[0]));
     line(rt, name, answer, u32::from(out[255]));
 }
@@ -131,16 +140,17 @@ fn from_planes(rt: &impl Print, name: &str, mvx: i32) {
 fn neighbour(available: bool, x: i32, y: i32, ref_idx: i32) -> MvNeighbor {
     MvNeighbor {
         available,
-        mv: vectors::Mv { x, y },
+        mv: Mv { x, y },
         ref_idx,
     }
 }
 
 // A vector whose components are known to be 0..999.
 fn vector(rt: &impl Print, name: &str, a: MvNeighbor, b: MvNeighbor, c: MvNeighbor, cur_ref: i32) {
-    let m = vectors::predict_mv(a, b, c, cur_ref);
-    line(rt, name, m.refusal, m.mv.x.cast_unsigned());
-    line(rt, name, m.refusal, m.mv.y.cast_unsigned());
+    let m = vectors::predict_mv(Neighbors { a, b, c }, cur_ref);
+    let mv = m.unwrap_or(Mv { x: 0, y: 0 });
+    line(rt, name, m.map(|_| ()), mv.x.cast_unsigned());
+    line(rt, name, m.map(|_| ()), mv.y.cast_unsigned());
 }
 
 // The worked row, and what the taps make of steps.
