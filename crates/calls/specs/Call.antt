@@ -1,4 +1,4 @@
--- The calls by number.
+-- Words of the replay: its calls by number, as the list has them. No public contract rests on them. Assumes nothing.
 use Rattle.std.specs.Prelude.{◌≡◌, ℕ, Result, MatchResult, ◌<◌, ◌≤◌}
 use Rattle.calls.specs.declared.call.Call.{Call}
 use Rattle.calls.specs.declared.call.Call.TheVariants.{Median3, PredictMv, PredictPartitionMv, InterPartitions, EdgeCount, McLuma, McChroma, AvgRowInto, ExpandPlane, McLumaPadded, McLumaPaddedPre, McChromaPadded, McChromaPaddedPair, PadPlane, BuildHpelPlanes, HpelRefAt, HpelQpelRefsAt, HpelRef, HpelQpelRefs, HpelBlock}
