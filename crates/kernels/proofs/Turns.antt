@@ -1,12 +1,11 @@
--- Turns of the loop that copies rows: two of them, and the last one of an odd height. Assumes nothing.
-use mathlib.Core.Path.{◌≡◌, refl, sym, ap, ◌∙◌, subst}
+-- A turn of the loop that copies two rows. Assumes nothing.
+use mathlib.Core.Path.{◌≡◌, refl, ap, ◌∙◌, subst}
 use mathlib.Core.List.{List}
-use Prim.Native.Nat.{ℕ, ◌+◌, ◌*◌, ◌-◌, ◌≤◌, ◌<◌}
+use Prim.Native.Nat.{ℕ, ◌+◌, ◌*◌, ◌≤◌}
 use native.Mathlib.Omega.{arith}
 use lib.ListN.{get_or}
-use Rattle.grid.specs.Block.{drawn}
 use Rattle.grid.specs.Run.{put}
-use Rattle.grid.proofs.Loop.{Rows, rows_more, rows_done}
+use Rattle.grid.proofs.Loop.{Rows, rows_more}
 
 pub two_more : {d e l : List ℕ} {w h r s : ℕ} (d₀ t : List ℕ) (p ts : ℕ) → Rows d₀ w h (λ c r. get_or t (p + r * ts + c) 0) r d → r + 2 ≤ h
     → e ≡ put d (r * w) w (λ i. get_or t (p + r * ts + i) 0) → l ≡ put e (r * w + w) w (λ i. get_or t (p + r * ts + ts + i) 0) → r + 2 ≡ s → Rows d₀ w h (λ c r. get_or t (p + r * ts + c) 0) s l
@@ -16,9 +15,3 @@ two_more {d} {e} {l} {w} {h} {r} {s} d₀ t p ts inv b m n u =
     subst (λ (k : ℕ). Rows d₀ w h (λ c r. get_or t (p + r * ts + c) 0) k l) q
     (rows_more (rows_more inv (omega arith) m (λ c i. refl)) (omega arith) (n ∙ ap (λ (k : ℕ). put e k w (λ i. get_or t (p + r * ts + ts + i) 0)) o)
     (λ c i. let s : p + r * ts + ts + c ≡ p + (r + 1) * ts + c = omega arith in ap (λ (k : ℕ). get_or t k 0) s))
-
-pub last_more : {d e : List ℕ} {w h r : ℕ} {f : ℕ → ℕ → ℕ} {g : ℕ → ℕ} (d₀ : List ℕ) → Rows d₀ w h f r d → r + 1 ≡ h → e ≡ put d ((h - 1) * w) w g
-    → ((c : ℕ) → c < w → g c ≡ f c (h - 1)) → e ≡ drawn d₀ w h f
-last_more {d} {e} {w} {h} {r} {f} {g} d₀ inv p m q =
-    let s : h - 1 ≡ r = omega arith in
-    rows_done (rows_more inv (omega arith) (m ∙ ap (λ (k : ℕ). put d (k * w) w g) s) (λ c a. q c a ∙ ap (f c) s)) (omega arith)

@@ -16,7 +16,7 @@ fn full_row(t: &[u8], p: usize, n: usize, dst: &mut [u8], o: usize)
     lanes::store(&z, n, dst, o);
 }
 
-// Two rows a turn.
+// Two rows a turn. A `for` over half as many turns takes up to a quarter more instructions.
 pub fn full_rows(v: View, size: Size, dst: &mut [u8])
     requires { (v.at + (size.h - 1) * v.stride + size.w ≤ length v.samples.now) × (1 ≤ size.w) × (size.w ≤ 16) × (size.w * size.h ≤ length dst.old) }
     ensures { dst.new ≡ drawn dst.old size.w size.h (λ c r. get_or v.entry.samples.now (v.entry.at + r * v.entry.stride + c) 0) }
@@ -27,13 +27,13 @@ pub fn full_rows(v: View, size: Size, dst: &mut [u8])
         stride,
     } = v;
     let Size { w, h } = size;
-    for k in 0..h / 2 {
-        let r = 2 * k;
+    let mut r = 0;
+    while r + 2 <= h {
         full_row(samples, at + r * stride, w, dst, r * w);
         full_row(samples, at + r * stride + stride, w, dst, r * w + w);
+        r += 2;
     }
-    if h % 2 == 1 {
-        let r = h - 1;
+    if r < h {
         full_row(samples, at + r * stride, w, dst, r * w);
     }
 }
