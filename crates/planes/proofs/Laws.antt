@@ -1,8 +1,8 @@
 -- What a call may rely on once nothing was refused; a plane's windows and the padded picture, in the code's unsigned places. Assumes nothing.
-use mathlib.Core.Path.{◌≡◌, refl, sym, ap, ap₂, ◌∙◌}
+use mathlib.Core.Path.{◌≡◌, refl, sym, subst, ap, ap₂, ◌∙◌}
 use mathlib.Core.Bool.{Bool, true, false, false≢true, ◌||◌}
 use mathlib.Core.List.{List, [], ◌∷◌}
-use Prim.Native.Nat.{ℕ, ◌+◌, ◌*◌, ◌^◌, ◌≤◌, ◌<◌}
+use Prim.Native.Nat.{ℕ, ◌+◌, ◌*◌, ◌/◌, ◌^◌, ◌≤◌, ◌<◌}
 use native.Mathlib.Omega.{arith}
 use lib.IntN.{ℤ, pos, negsuc, ◌+ℤ◌, ◌-ℤ◌}
 use borrow.Author.Tests.{ltb-false}
@@ -10,6 +10,7 @@ use Rattle.signed.proofs.Linear.{diff, diff_same}
 use Rattle.grid.specs.Block.{block, drawn, sample}
 use Rattle.grid.specs.Run.{put}
 use Rattle.grid.proofs.Fill.{put_ext, block_at, drawn_at, drawn_ext}
+use Rattle.grid.proofs.Loop.{Filled, filled_done}
 use Rattle.place.specs.Picture.{sample_at, window}
 use Rattle.place.specs.Place.{clamp_z}
 use Rattle.place.specs.Near.{near_area}
@@ -19,6 +20,7 @@ use Rattle.place.proofs.Windows.{sample_is}
 use Rattle.samples.specs.Tap.{half, centre}
 use Rattle.samples.specs.Phase.{Window, phases, anchor, luma_sample}
 use Rattle.samples.proofs.Reach.{mean_same, luma_six}
+use Rattle.samples.proofs.Rows.{filled_by}
 use Rattle.samples.proofs.Word.{to_diff}
 use Rattle.terms.specs.declared.refusal.Refusal.{Refusal}
 use Rattle.terms.specs.declared.refusal.Refusal.TheVariants.{BadSide, ShortSource, BadBlock, BadPosition, ShortOutput, NotServed, BadReference}
@@ -163,6 +165,20 @@ module _ (f : List ℕ) (pw ph x y n : ℕ) (W : ℕ → Window)
     p.1 ∙ put_ext v₀ o n _ _ (λ c b. down_same (W c) (window f pw ph (pos (x + c)) (pos y)) (reads c b)),
     p.2 ∙ put_ext m₀ o n _ _ (λ c b. centre_same (W c) (window f pw ph (pos (x + c)) (pos y)) (reads c b)),
   )
+
+-- ---- a row, written sixteen samples at a time
+
+module _ {d₀ d e : List ℕ} {o n : ℕ} {g : ℕ → ℕ} where
+  pub next_part : {k : ℕ} {h : ℕ → ℕ} (i : ℕ) → Filled d₀ o n g (16 * i) d → i < n / 16 → e ≡ put d k 16 h → k ≡ o + 16 * i
+      → ((j : ℕ) → j < 16 → g (16 * i + j) ≡ h j) → Filled d₀ o n g (16 * (i + 1)) e
+  next_part i f b p q s =
+      let t : 16 * i + 16 ≡ 16 * (i + 1) = omega arith in
+      subst (λ (m : ℕ). Filled d₀ o n g m e) t (filled_by f (omega arith) p q s)
+
+  -- m more from x on end it
+  pub last_part : {k : ℕ} {h : ℕ → ℕ} (i x m : ℕ) → Filled d₀ o n g (16 * i) d → 16 * i ≡ x → x + m ≡ n → e ≡ put d k m h → k ≡ o + x
+      → ((j : ℕ) → j < m → g (x + j) ≡ h j) → e ≡ put d₀ o n g
+  last_part i x m f t b p q s = filled_done (filled_by (subst (λ (l : ℕ). Filled d₀ o n g l d) t f) (omega arith) p q s) (omega arith)
 
 -- ---- a buffer that a plane was drawn into reads as the plane alone
 

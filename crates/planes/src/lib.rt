@@ -133,11 +133,10 @@ fn build_row(f: &[u8], pw: usize, ph: usize, y: usize, h: &mut [u8], v: &mut [u8
         × (v.new ≡ put v.old (y * pw) pw (λ x. down_at f.now pw ph x y))
         × (c.new ≡ put c.old (y * pw) pw (λ x. centre_at f.now pw ph x y)) }
 {
-    let mut x = 0;
-    while x + 16 <= pw {
-        build_part(f, pw, ph, x, y, 16, h, v, c);
-        x += 16;
+    for part in 0..pw / 16 {
+        build_part(f, pw, ph, 16 * part, y, 16, h, v, c);
     }
+    let x = pw / 16 * 16;
     if x < pw {
         build_part(f, pw, ph, x, y, pw - x, h, v, c);
     }

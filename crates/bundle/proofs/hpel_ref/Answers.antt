@@ -1,0 +1,5 @@
+-- The call over the parts promises just this; said here, so that a clause that says something else is refused where it differs.
+use Rattle.bundle.proofs.hpel_ref.Goals as goal
+
+pub returns : goal.returns
+returns c = c.hpel_ref.ensures
