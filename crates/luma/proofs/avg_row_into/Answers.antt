@@ -33,5 +33,5 @@ returns c =
     let firsts : ℕ → ℕ = λ i. mean (get_or (take w a) i 0) (get_or (take w b) i 0) in (
       miss 2 _ (le-ltb _ _ c.if-a-w.false) (miss 2 _ (le-ltb _ _ c.if-b-w.false) (miss 5 _ (le-ltb _ _ long) none)),
       row_drawn c.args.out.now firsts (row_mean a b) refl (c.avg_run.ensures ∙ ap (λ (n : ℕ). tab n firsts) (length-take-le w c.args.out.now long)) refl
-      (λ i h. ap₂ mean (get_or-take w a i 0 h) (get_or-take w b i 0 h)),
+          (λ i h. ap₂ mean (get_or-take w a i 0 h) (get_or-take w b i 0 h)),
     )

@@ -6,3 +6,6 @@ pub returns-in_err-check_plain_block : goal.returns-in_err-check_plain_block
 returns-in_err-check_plain_block c =
     let e = c.in_err-check_plain_block.field-0.0 in
     rw (handed _ e c.from_residual.ensures.1) (c.in_err-check_plain_block.ensures, untouched e _ _)
+
+pub predict-requires : goal.predict-requires
+predict-requires c = c.in_ok-check_plain_block.ensures

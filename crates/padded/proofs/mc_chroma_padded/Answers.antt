@@ -1,6 +1,5 @@
 -- `padded::mc_chroma_padded` meets its contract: a refusal keeps `out`, and no refusal is what `chroma_block` requires. Assumes nothing.
-use Rattle.std.proofs.Common.{arith, w32}
-use Rattle.std.proofs.lemmas.Int.{to_z-of_z}
+use Rattle.std.proofs.Common.{arith}
 use Rattle.place.proofs.Refused.{padded_block_ok, handed, untouched}
 use Rattle.padded.proofs.mc_chroma_padded.Goals as goal
 
@@ -9,12 +8,13 @@ returns-in_err-check_padded_block c =
     let e = c.in_err-check_padded_block.field-0.0 in
     rw (handed _ e c.from_residual.ensures.1) (c.in_err-check_padded_block.ensures, untouched e _ _)
 
+pub invariant_of-plane : goal.invariant_of-plane
+invariant_of-plane c =
+    let ok = padded_block_ok _ _ _ _ _ _ _ _ _ _ _ c.in_ok-check_padded_block.ensures in
+    record { wide = omega (arith, ok); high = omega (arith, ok); margin = omega (arith, ok); rows = omega (arith, ok); whole = omega (arith, ok) }
+
 pub chroma_block-requires : goal.chroma_block-requires
 chroma_block-requires c = omega (arith, padded_block_ok _ _ _ _ _ _ _ _ _ _ _ c.in_ok-check_padded_block.ensures)
 
 pub returns : goal.returns
-returns c =
-    let v = c.args.block.mv in (
-      c.in_ok-check_padded_block.ensures,
-      simp (to_z-of_z w32 v.x (record { sfits = omega (arith, c.well_formed.1.1.0) }), to_z-of_z w32 v.y (record { sfits = omega (arith, c.well_formed.1.1.0) })) at c.chroma_block.ensures,
-    )
+returns c = (c.in_ok-check_padded_block.ensures, c.chroma_block.ensures)

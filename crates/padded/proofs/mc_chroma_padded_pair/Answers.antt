@@ -1,6 +1,5 @@
 -- `padded::mc_chroma_padded_pair` meets its contract: the shorter lengths decide, a refusal keeps both outputs, and no refusal is what `chroma_pair` requires. Assumes nothing.
-use Rattle.std.proofs.Common.{◌≡◌, ℕ, ap₂, ◌∙◌, arith, w32}
-use Rattle.std.proofs.lemmas.Int.{to_z-of_z}
+use Rattle.std.proofs.Common.{◌≡◌, ℕ, refl, ap₂, ◌∙◌, arith}
 use Rattle.place.specs.Refusal.{padded_block_refusal}
 use Rattle.place.proofs.Refused.{padded_block_ok, handed, untouched}
 use Rattle.padded.proofs.mc_chroma_padded_pair.Goals as goal
@@ -16,16 +15,20 @@ returns-in_err-check_padded_block c =
     rw (handed _ e c.from_residual.ensures.1)
     (by_lengths _ _ _ _ _ _ _ _ c.in_err-check_padded_block.ensures c.min-source.ensures c.min-target.ensures, untouched e _ _, untouched e _ _)
 
+pub invariant_of-u : goal.invariant_of-u
+invariant_of-u c =
+    let ok = padded_block_ok _ _ _ _ _ _ _ _ _ _ _ c.in_ok-check_padded_block.ensures in
+    record { wide = omega (arith, ok); high = omega (arith, ok); margin = omega (arith, ok); rows = omega (arith, ok); whole = omega (arith, ok, c.min-source.ensures) }
+
+pub invariant_of-v : goal.invariant_of-v
+invariant_of-v c =
+    let ok = padded_block_ok _ _ _ _ _ _ _ _ _ _ _ c.in_ok-check_padded_block.ensures in
+    record { wide = omega (arith, ok); high = omega (arith, ok); margin = omega (arith, ok); rows = omega (arith, ok); whole = omega (arith, ok, c.min-source.ensures) }
+
 pub chroma_pair-requires : goal.chroma_pair-requires
-chroma_pair-requires c = omega (arith, padded_block_ok _ _ _ _ _ _ _ _ _ _ _ c.in_ok-check_padded_block.ensures)
+chroma_pair-requires c =
+    let ok = (padded_block_ok _ _ _ _ _ _ _ _ _ _ _ c.in_ok-check_padded_block.ensures).1 in
+    (refl, ok.x2, ok.y2, ok.bw1, ok.bw2, ok.bh1, ok.bh2, omega (arith, ok.dst, c.min-target.ensures), omega (arith, ok.dst, c.min-target.ensures))
 
 pub returns : goal.returns
-returns c =
-    let v = c.args.block.mv in
-    let k = c.well_formed.1.1.1.0 in
-    let i = to_z-of_z w32 v.x (record { sfits = omega (arith, k) }) in
-    let j = to_z-of_z w32 v.y (record { sfits = omega (arith, k) }) in (
-      by_lengths _ _ _ _ _ _ _ _ c.in_ok-check_padded_block.ensures c.min-source.ensures c.min-target.ensures,
-      simp (i, j) at c.chroma_pair.ensures.0,
-      simp (i, j) at c.chroma_pair.ensures.1,
-    )
+returns c = (by_lengths _ _ _ _ _ _ _ _ c.in_ok-check_padded_block.ensures c.min-source.ensures c.min-target.ensures, c.chroma_pair.ensures.0, c.chroma_pair.ensures.1)

@@ -1,6 +1,5 @@
 -- `padded::mc_luma_padded_slices` meets its contract: a refusal keeps all, and no refusal is what `luma_block_with` requires. Assumes nothing.
-use Rattle.std.proofs.Common.{◌≡◌, ℕ, ◌≤◌, [], ◌∷◌, ◌++◌, refl, arith, w32, ltb-false}
-use Rattle.std.proofs.lemmas.Int.{to_z-of_z}
+use Rattle.std.proofs.Common.{◌≡◌, ℕ, ◌≤◌, [], ◌∷◌, ◌++◌, refl, arith, ltb-false}
 use Rattle.place.specs.Refusal.{short, padded_tests, block_tests, padded_block_refusal}
 use Rattle.place.proofs.Refused.{PaddedOk, BlockOk, padded_block_ok, split_zero, passed, handed, untouched}
 use Rattle.window.specs.Padded.{slices_refusal}
@@ -22,16 +21,13 @@ returns-in_err-check_lent c =
     let e = c.in_err-check_lent.field-0.0 in
     rw (handed _ e c.from_residual.ensures.1) (c.in_err-check_lent.ensures, untouched e _ _, untouched e _ _, untouched e _ _, untouched e _ _)
 
+pub invariant_of-plane : goal.invariant_of-plane
+invariant_of-plane c =
+    let ok = slices_ok _ _ _ _ _ _ _ _ _ _ _ _ _ c.in_ok-check_lent.ensures in
+    record { wide = omega (arith, ok); high = omega (arith, ok); margin = omega (arith, ok); rows = omega (arith, ok); whole = omega (arith, ok) }
+
 pub luma_block_with-requires : goal.luma_block_with-requires
 luma_block_with-requires c = omega (arith, slices_ok _ _ _ _ _ _ _ _ _ _ _ _ _ c.in_ok-check_lent.ensures)
 
 pub returns : goal.returns
-returns c =
-    let v = c.args.block.mv in
-    let k = c.well_formed.1.1.1.1.1.0 in (
-      c.in_ok-check_lent.ensures,
-      simp (to_z-of_z w32 v.x (record { sfits = omega (arith, k) }), to_z-of_z w32 v.y (record { sfits = omega (arith, k) })) at c.luma_block_with.ensures,
-      refl,
-      refl,
-      refl,
-    )
+returns c = (c.in_ok-check_lent.ensures, c.luma_block_with.ensures, refl, refl, refl)
