@@ -52,7 +52,8 @@ fn is_off(at: usize, n: usize) -> bool
     requires { n ≤ 8192 }
     ensures { result ≡ off (sub_ℕ at (2 ^ 29)) n }
 {
-    (at < coords::base::<4>()) | (n + coords::base::<4>() <= at)
+    let base = coords::base::<4>();
+    (at < base) | (n + base <= at)
 }
 
 fn count_off(x: usize, y: usize, w: usize, h: usize, bw: usize, bh: usize) -> u32
