@@ -52,7 +52,8 @@ fn is_off(at: usize, n: usize) -> bool
     requires { n ≤ 8192 }
     ensures { result ≡ off (sub_ℕ at (2 ^ 29)) n }
 {
-    (at < coords::base::<4>()) | (n + coords::base::<4>() <= at)
+    let base = coords::base::<4>();
+    (at < base) | (n + base <= at)
 }
 
 // A loop and not a filter, whose closure would have to ask for all that is required here, for each k once more.

@@ -10,7 +10,10 @@ ghost use Rattle.samples.specs.Kernel.{window_at};
 ghost use Rattle.terms.specs.Refusal.{answered};
 ghost use Rattle.planes.specs.Planes.{wide, padded_at, across_at, down_at, centre_at, padded_plane, pad_refusal, build_refusal};
 
+use grid::{Size, View};
+use place::area::{Aim, Area};
 use place::{coords, limits, tiles};
+use route::component::Luma;
 use terms::plane::Plane;
 use terms::refusal::Refusal;
 
@@ -48,109 +51,114 @@ fn draw_padded(plane: Plane, pad: usize, out: &mut [u8])
     ensures { out.new ≡ drawn out.old (wide plane.entry.w pad) (wide plane.entry.h pad) (padded_at plane.entry.samples.now plane.entry.w plane.entry.h pad) }
 {
     let Plane { samples, w, h } = plane;
-    let pw = w + 2 * pad;
-    let ph = h + 2 * pad;
+    let picture = Area {
+        samples,
+        at: 0,
+        stride: w,
+        w,
+        h,
+    };
+    let size = Size {
+        w: w + 2 * pad,
+        h: h + 2 * pad,
+    };
     // A place pad up: column 0 of the plane is pad before the picture.
     let left = 0;
-    tiles::clamped_area(samples, 0, w, w, h, left, 0, pad, pw, ph, out);
+    tiles::clamped_area(picture, left, 0, pad, size, out);
 }
 
-// n samples of each plane, written from o on; the first has its window at t[p].
-fn build_lanes(
-    t: &[u8],
-    p: usize,
-    ts: usize,
-    n: usize,
-    o: usize,
-    h: &mut [u8],
-    v: &mut [u8],
-    c: &mut [u8],
-)
-    requires { (p + 5 * ts + 21 ≤ length t.now) × (n ≤ 16) × (o + n ≤ length h.old) × (o + n ≤ length v.old) × (o + n ≤ length c.old) }
-    ensures { (h.new ≡ put h.old o n (λ i. half 255 (λ k. window_at t.now p ts i 0 k 2)))
-        × (v.new ≡ put v.old o n (λ i. half 255 (λ k. window_at t.now p ts i 0 2 k)))
-        × (c.new ≡ put c.old o n (λ i. centre 255 (window_at t.now p ts i 0))) }
-{
-    halves::half_row(t, p + 2 * ts, 1, n, h, o);
-    centre::down_and_centre_row(t, p, ts, n, v, c, o);
+// A picture with its margins, all of it lent, of which half samples are built.
+#[derive(Clone, Copy)]
+struct Padded<'a> {
+    samples: &'a [u8],
+    w: usize,
+    h: usize,
+    ghost wide: { (1 ≤ w) × (w ≤ 8448) },
+    ghost high: { (1 ≤ h) × (h ≤ 8448) },
+    ghost whole: { w * h ≤ length samples.now },
 }
 
-// The n samples of each plane from column x of row y on: read in place where their windows lie inside f, else by way of a tile.
-fn build_part(
-    f: &[u8],
-    pw: usize,
-    ph: usize,
-    x: usize,
-    y: usize,
-    n: usize,
-    h: &mut [u8],
-    v: &mut [u8],
-    c: &mut [u8],
-)
-    requires { (pw ≤ 8448) × (ph ≤ 8448) × (pw * ph ≤ length f.now) × (1 ≤ n) × (n ≤ 16) × (x + n ≤ pw) × (y < ph) × (pw * ph ≤ length h.old) × (pw * ph ≤ length v.old) × (pw * ph ≤ length c.old) }
-    ensures { (h.new ≡ put h.old (y * pw + x) n (λ i. across_at f.now pw ph (x + i) y))
-        × (v.new ≡ put v.old (y * pw + x) n (λ i. down_at f.now pw ph (x + i) y))
-        × (c.new ≡ put c.old (y * pw + x) n (λ i. centre_at f.now pw ph (x + i) y)) }
+// n samples of each plane, written from o on; the view starts at the window of the first.
+fn build_lanes(view: View, n: usize, o: usize, h: &mut [u8], v: &mut [u8], c: &mut [u8])
+    requires { (view.at + 5 * view.stride + 21 ≤ length view.samples.now) × (n ≤ 16) × (o + n ≤ length h.old) × (o + n ≤ length v.old) × (o + n ≤ length c.old) }
+    ensures { (h.new ≡ put h.old o n (λ i. half 255 (λ k. window_at view.entry.samples.now view.entry.at view.entry.stride i 0 k 2)))
+        × (v.new ≡ put v.old o n (λ i. half 255 (λ k. window_at view.entry.samples.now view.entry.at view.entry.stride i 0 2 k)))
+        × (c.new ≡ put c.old o n (λ i. centre 255 (window_at view.entry.samples.now view.entry.at view.entry.stride i 0))) }
 {
-    let o = y * pw + x;
-    let s = route::locate(
-        f.len(),
-        0,
-        pw,
-        pw,
-        ph,
-        x + coords::LUMA_BASE,
-        y + coords::LUMA_BASE,
-        coords::LUMA_BASE + 2,
-        n + 5,
-        6,
-        21,
-    );
-    if s.inside {
-        build_lanes(f, s.at, pw, n, o, h, v, c);
-        return;
+    halves::half_row(view.samples, view.at + 2 * view.stride, 1, n, h, o);
+    centre::down_and_centre_row(view, n, v, c, o);
+}
+
+// The n samples of each plane from column x of row y on: read in place where their windows lie inside the picture, else by way of a tile.
+fn build_part(f: Padded, x: usize, y: usize, n: usize, h: &mut [u8], v: &mut [u8], c: &mut [u8])
+    requires { (1 ≤ n) × (n ≤ 16) × (x + n ≤ f.w) × (y < f.h) × (f.w * f.h ≤ length h.old) × (f.w * f.h ≤ length v.old) × (f.w * f.h ≤ length c.old) }
+    ensures { (h.new ≡ put h.old (y * f.entry.w + x) n (λ i. across_at f.entry.samples.now f.entry.w f.entry.h (x + i) y))
+        × (v.new ≡ put v.old (y * f.entry.w + x) n (λ i. down_at f.entry.samples.now f.entry.w f.entry.h (x + i) y))
+        × (c.new ≡ put c.old (y * f.entry.w + x) n (λ i. centre_at f.entry.samples.now f.entry.w f.entry.h (x + i) y)) }
+{
+    let o = y * f.w + x;
+    let area = Area {
+        samples: f.samples,
+        at: 0,
+        stride: f.w,
+        w: f.w,
+        h: f.h,
+    };
+    let aim = Aim::<4> {
+        x: x + coords::LUMA_BASE,
+        y: y + coords::LUMA_BASE,
+        fx: 0,
+        fy: 0,
+        w: n,
+        h: 1,
+    };
+    match route::locate_window::<Luma, 4, 441>(area, aim) {
+        Some(at) => {
+            let view = View {
+                samples: f.samples,
+                at,
+                stride: f.w,
+            };
+            build_lanes(view, n, o, h, v, c);
+        }
+        None => {
+            let mut tile = [0u8; 126];
+            tiles::tile_into(&mut tile, area, aim, 2, 5);
+            let view = View {
+                samples: &tile,
+                at: 0,
+                stride: n + 5,
+            };
+            build_lanes(view, n, o, h, v, c);
+        }
     }
-    let mut tile = [0u8; 126];
-    tiles::luma_tile_into(
-        &mut tile,
-        f,
-        0,
-        pw,
-        pw,
-        ph,
-        x + coords::LUMA_BASE,
-        y + coords::LUMA_BASE,
-        n,
-        1,
-    );
-    build_lanes(&tile, 0, n + 5, n, o, h, v, c);
 }
 
-// Row y of each plane, sixteen samples at a time.
-fn build_row(f: &[u8], pw: usize, ph: usize, y: usize, h: &mut [u8], v: &mut [u8], c: &mut [u8])
-    requires { (pw ≤ 8448) × (ph ≤ 8448) × (pw * ph ≤ length f.now) × (y < ph) × (pw * ph ≤ length h.old) × (pw * ph ≤ length v.old) × (pw * ph ≤ length c.old) }
-    ensures { (h.new ≡ put h.old (y * pw) pw (λ x. across_at f.now pw ph x y))
-        × (v.new ≡ put v.old (y * pw) pw (λ x. down_at f.now pw ph x y))
-        × (c.new ≡ put c.old (y * pw) pw (λ x. centre_at f.now pw ph x y)) }
+// Row y of each plane, sixteen samples at a time, then the rest.
+fn build_row(f: Padded, y: usize, h: &mut [u8], v: &mut [u8], c: &mut [u8])
+    requires { (y < f.h) × (f.w * f.h ≤ length h.old) × (f.w * f.h ≤ length v.old) × (f.w * f.h ≤ length c.old) }
+    ensures { (h.new ≡ put h.old (y * f.entry.w) f.entry.w (λ x. across_at f.entry.samples.now f.entry.w f.entry.h x y))
+        × (v.new ≡ put v.old (y * f.entry.w) f.entry.w (λ x. down_at f.entry.samples.now f.entry.w f.entry.h x y))
+        × (c.new ≡ put c.old (y * f.entry.w) f.entry.w (λ x. centre_at f.entry.samples.now f.entry.w f.entry.h x y)) }
 {
-    for part in 0..pw / 16 {
-        build_part(f, pw, ph, 16 * part, y, 16, h, v, c);
+    for k in 0..f.w / 16 {
+        build_part(f, 16 * k, y, 16, h, v, c);
     }
-    let x = pw / 16 * 16;
-    if x < pw {
-        build_part(f, pw, ph, x, y, pw - x, h, v, c);
+    let rest = f.w % 16;
+    if 0 < rest {
+        build_part(f, f.w - rest, y, rest, h, v, c);
     }
 }
 
 // The three planes of half samples, by rows.
-fn build_hpel_rows(f: &[u8], pw: usize, ph: usize, h: &mut [u8], v: &mut [u8], c: &mut [u8])
-    requires { (pw ≤ 8448) × (ph ≤ 8448) × (pw * ph ≤ length f.now) × (pw * ph ≤ length h.old) × (pw * ph ≤ length v.old) × (pw * ph ≤ length c.old) }
-    ensures { (h.new ≡ drawn h.old pw ph (across_at f.now pw ph))
-        × (v.new ≡ drawn v.old pw ph (down_at f.now pw ph))
-        × (c.new ≡ drawn c.old pw ph (centre_at f.now pw ph)) }
+fn build_hpel_rows(f: Padded, h: &mut [u8], v: &mut [u8], c: &mut [u8])
+    requires { (f.w * f.h ≤ length h.old) × (f.w * f.h ≤ length v.old) × (f.w * f.h ≤ length c.old) }
+    ensures { (h.new ≡ drawn h.old f.entry.w f.entry.h (across_at f.entry.samples.now f.entry.w f.entry.h))
+        × (v.new ≡ drawn v.old f.entry.w f.entry.h (down_at f.entry.samples.now f.entry.w f.entry.h))
+        × (c.new ≡ drawn c.old f.entry.w f.entry.h (centre_at f.entry.samples.now f.entry.w f.entry.h)) }
 {
-    for y in 0..ph {
-        build_row(f, pw, ph, y, h, v, c);
+    for y in 0..f.h {
+        build_row(f, y, h, v, c);
     }
 }
 
@@ -191,6 +199,11 @@ pub fn build_hpel_planes(
 {
     check_build(plane, pad, f.len(), h.len(), v.len(), c.len())?;
     draw_padded(plane, pad, f);
-    build_hpel_rows(f, plane.w + 2 * pad, plane.h + 2 * pad, h, v, c);
+    let padded = Padded {
+        samples: f,
+        w: plane.w + 2 * pad,
+        h: plane.h + 2 * pad,
+    };
+    build_hpel_rows(padded, h, v, c);
     Ok(())
 }

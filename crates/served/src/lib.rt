@@ -79,14 +79,9 @@ fn check_place(unserved: bool, lent: Lent, block: Block) -> Result<(), Refusal>
     if unserved {
         return Err(Refusal::NotServed);
     }
-    let x = num::wrapping_sub_usize(
-        coords::at::<4>(block.x, block.mv.x) + lent.pad,
-        coords::base::<4>(),
-    );
-    let y = num::wrapping_sub_usize(
-        coords::at::<4>(block.y, block.mv.y) + lent.pad,
-        coords::base::<4>(),
-    );
+    let base = coords::base::<4>();
+    let x = num::wrapping_sub_usize(coords::at::<4>(block.x, block.mv.x) + lent.pad, base);
+    let y = num::wrapping_sub_usize(coords::at::<4>(block.y, block.mv.y) + lent.pad, base);
     // n samples have room for n - b blocks of b samples and one to spare, at full and half phase too. A place before the plane wraps, and lies beyond every room.
     let across = (lent.cw + 2 * lent.pad).saturating_sub(block.w);
     if across <= x {

@@ -7,17 +7,22 @@ use Rattle.planes.proofs.build_hpel_planes.Goals as goal
 pub draw_padded-requires : goal.draw_padded-requires
 draw_padded-requires c = omega (arith, (build_ok _ _ _ _ _ _ _ _ c.in_ok-check_build.ensures).plane)
 
-pub overflow_mul-pad : goal.overflow_mul-pad
-overflow_mul-pad c = omega (arith, (build_ok _ _ _ _ _ _ _ _ c.in_ok-check_build.ensures).plane)
+pub overflow_mul-padded : goal.overflow_mul-padded
+overflow_mul-padded c = omega (arith, (build_ok _ _ _ _ _ _ _ _ c.in_ok-check_build.ensures).plane)
 
-pub overflow_add-plane : goal.overflow_add-plane
-overflow_add-plane c = omega (arith, (build_ok _ _ _ _ _ _ _ _ c.in_ok-check_build.ensures).plane)
+pub overflow_add-padded : goal.overflow_add-padded
+overflow_add-padded c = omega (arith, (build_ok _ _ _ _ _ _ _ _ c.in_ok-check_build.ensures).plane)
 
-pub overflow_mul-pad-2 : goal.overflow_mul-pad-2
-overflow_mul-pad-2 c = omega (arith, (build_ok _ _ _ _ _ _ _ _ c.in_ok-check_build.ensures).plane)
+pub overflow_mul-padded-2 : goal.overflow_mul-padded-2
+overflow_mul-padded-2 c = omega (arith, (build_ok _ _ _ _ _ _ _ _ c.in_ok-check_build.ensures).plane)
 
-pub overflow_add-plane-2 : goal.overflow_add-plane-2
-overflow_add-plane-2 c = omega (arith, (build_ok _ _ _ _ _ _ _ _ c.in_ok-check_build.ensures).plane)
+pub overflow_add-padded-2 : goal.overflow_add-padded-2
+overflow_add-padded-2 c = omega (arith, (build_ok _ _ _ _ _ _ _ _ c.in_ok-check_build.ensures).plane)
+
+pub invariant_of-padded : goal.invariant_of-padded
+invariant_of-padded c =
+    let ok = (build_ok _ _ _ _ _ _ _ _ c.in_ok-check_build.ensures).plane in
+    record { wide = omega (arith, ok); high = omega (arith, ok); whole = omega (arith, ok) }
 
 pub build_hpel_rows-requires : goal.build_hpel_rows-requires
 build_hpel_rows-requires c =

@@ -35,8 +35,8 @@ returns-in_err-check_place c =
     let p = err_from_is_err_and c.from_residual-in_err-check_place.result c.from_residual-in_err-check_place.ensures.1 in
     let wx : SFits w32 c.args.block.mv.x = search rules in
     let wy : SFits w32 c.args.block.mv.y = search rules in
-    let fx = simp (to_z-of_z wx) at c.luma_phase-fx.ensures.0 in
-    let fy = simp (to_z-of_z wy) at c.luma_phase-fy.ensures.0 in
+    let fx = simp (to_z-of_z wx) at c.phase-fx.ensures.0 in
+    let fy = simp (to_z-of_z wy) at c.phase-fy.ensures.0 in
     let full = c.at_full.ensures ∙ ap₂ at_full fx fy in
     rw (p.1, p.2) (first _ _ _ (room_then _ _ _ _ _ _ _ _ _ _ _ _ _ _ c.in_ok-check_lent.ensures c.if-out-block.false (same_test _ _ _ _ _ _ c.in_err-check_place.ensures full)) (above_zero _))
 
@@ -48,8 +48,8 @@ unfolding block_refusal
 returns-then-at_quarter-bad_width c =
     let wx : SFits w32 c.args.block.mv.x = search rules in
     let wy : SFits w32 c.args.block.mv.y = search rules in
-    let fx = simp (to_z-of_z wx) at c.luma_phase-fx.ensures.0 in
-    let fy = simp (to_z-of_z wy) at c.luma_phase-fy.ensures.0 in
+    let fx = simp (to_z-of_z wx) at c.phase-fx.ensures.0 in
+    let fy = simp (to_z-of_z wy) at c.phase-fy.ensures.0 in
     let full = c.at_full.ensures ∙ ap₂ at_full fx fy in
     let width = ap₂ ◌&&◌ (c.at_quarter.ensures ∙ ap₂ at_quarter fx fy) c.bad_width.ensures in
     place_then _ _ _ _ _ _ _ _ _ _ _ _ _ _ _ _ _ c.in_ok-check_lent.ensures c.if-out-block.false (same_test _ _ _ _ _ _ c.in_ok-check_place.ensures full)
@@ -60,8 +60,8 @@ unfolding block_refusal
 returns c =
     let wx : SFits w32 c.args.block.mv.x = search rules in
     let wy : SFits w32 c.args.block.mv.y = search rules in
-    let fx = simp (to_z-of_z wx) at c.luma_phase-fx.ensures.0 in
-    let fy = simp (to_z-of_z wy) at c.luma_phase-fy.ensures.0 in
+    let fx = simp (to_z-of_z wx) at c.phase-fx.ensures.0 in
+    let fy = simp (to_z-of_z wy) at c.phase-fy.ensures.0 in
     let full = c.at_full.ensures ∙ ap₂ at_full fx fy in
     let width = ap₂ ◌&&◌ (c.at_quarter.ensures ∙ ap₂ at_quarter fx fy) c.bad_width.ensures in
     place_then _ _ _ _ _ _ _ _ _ _ _ _ _ _ _ _ _ c.in_ok-check_lent.ensures c.if-out-block.false (same_test _ _ _ _ _ _ c.in_ok-check_place.ensures full)

@@ -15,28 +15,34 @@ pub returns-then-across-x : goal.returns-then-across-x
 returns-then-across-x c =
     let fx : SFits w32 c.args.block.mv.x = search rules in
     let fy : SFits w32 c.args.block.mv.y = search rules in
-    let ex = simp (to_z-of_z fx) at c.luma_at.ensures.0 in
-    let ey = simp (to_z-of_z fy) at c.luma_at-2.ensures.0 in
+    let ex = simp (to_z-of_z fx) at c.at.ensures.0 in
+    let ey = simp (to_z-of_z fy) at c.at-2.ensures.0 in
     let x = c.wrapping_sub_usize-x in
     let y = c.wrapping_sub_usize-y in
-    is_across _ _ _ _ _ _ _ _ _ _ fx.sfits fy.sfits ex ey x.type_inv y.type_inv x.ensures.value y.ensures.value (omega arith)
+    let far = rw c.base-base.ensures at x.ensures.value in
+    let low = rw c.base-base.ensures at y.ensures.value in
+    is_across _ _ _ _ _ _ _ _ _ _ fx.sfits fy.sfits ex ey x.type_inv y.type_inv far low (omega arith)
 
 pub returns-then-down-y : goal.returns-then-down-y
 returns-then-down-y c =
     let fx : SFits w32 c.args.block.mv.x = search rules in
     let fy : SFits w32 c.args.block.mv.y = search rules in
-    let ex = simp (to_z-of_z fx) at c.luma_at.ensures.0 in
-    let ey = simp (to_z-of_z fy) at c.luma_at-2.ensures.0 in
+    let ex = simp (to_z-of_z fx) at c.at.ensures.0 in
+    let ey = simp (to_z-of_z fy) at c.at-2.ensures.0 in
     let x = c.wrapping_sub_usize-x in
     let y = c.wrapping_sub_usize-y in
-    is_down _ _ _ _ _ _ _ _ _ _ fx.sfits fy.sfits ex ey x.type_inv y.type_inv x.ensures.value y.ensures.value (omega arith)
+    let far = rw c.base-base.ensures at x.ensures.value in
+    let low = rw c.base-base.ensures at y.ensures.value in
+    is_down _ _ _ _ _ _ _ _ _ _ fx.sfits fy.sfits ex ey x.type_inv y.type_inv far low (omega arith)
 
 pub returns : goal.returns
 returns c =
     let fx : SFits w32 c.args.block.mv.x = search rules in
     let fy : SFits w32 c.args.block.mv.y = search rules in
-    let ex = simp (to_z-of_z fx) at c.luma_at.ensures.0 in
-    let ey = simp (to_z-of_z fy) at c.luma_at-2.ensures.0 in
+    let ex = simp (to_z-of_z fx) at c.at.ensures.0 in
+    let ey = simp (to_z-of_z fy) at c.at-2.ensures.0 in
     let x = c.wrapping_sub_usize-x in
     let y = c.wrapping_sub_usize-y in
-    is_none _ _ _ _ _ _ _ _ _ _ fx.sfits fy.sfits ex ey x.type_inv y.type_inv x.ensures.value y.ensures.value c.if-unserved.false (omega arith) (omega arith) (omega arith) (omega arith)
+    let far = rw c.base-base.ensures at x.ensures.value in
+    let low = rw c.base-base.ensures at y.ensures.value in
+    is_none _ _ _ _ _ _ _ _ _ _ fx.sfits fy.sfits ex ey x.type_inv y.type_inv far low c.if-unserved.false (omega arith) (omega arith) (omega arith) (omega arith)

@@ -1,5 +1,5 @@
 -- Where STEPS divides 2^31, the remainder of the number that far up is the phase.
-use Rattle.std.proofs.Common.{◌^◌, arith, to_z-of_z, mod-lt}
+use Rattle.std.proofs.Common.{◌^◌, to_z-of_z, mod-lt}
 use Rattle.place.proofs.CoordLaws.{phase_on}
 use Rattle.place.proofs.coords.phase.Goals as goal
 

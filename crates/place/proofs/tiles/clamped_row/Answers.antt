@@ -1,6 +1,6 @@
 -- One more sample is written at each turn.
 use Rattle.std.proofs.Common.{refl, arith}
-use Rattle.grid.proofs.Loop.{filled_none, filled_more, filled_done}
+use Rattle.grid.proofs.Loop.{filled_none, filled_more}
 use Rattle.place.proofs.tiles.clamped_row.Goals as goal
 
 pub loop-i-init : goal.loop-i-init
