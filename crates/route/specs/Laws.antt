@@ -1,4 +1,4 @@
--- What luma and chroma have in common: a sample reads its window alone, one of phase (0, 0) is the sample at its place, and a block's window fits its tile. Assumes nothing.
+-- Words of the workshop: what luma and chroma have in common: a sample reads its window alone, one of phase (0, 0) is the sample at its place, and a block's window fits its tile. No public contract rests on them. Assumes nothing.
 use Rattle.std.proofs.Common.{◌≡◌, ℕ, ◌+◌, ◌*◌, ◌-◌, ◌≤◌, ◌<◌, ap₂, ◌∙◌, arith}
 use Rattle.place.proofs.Refused.{area}
 use Rattle.samples.specs.Phase.{luma_sample}
