@@ -136,7 +136,8 @@ fn first_at(a: Anchor, pw: usize, x: usize, y: usize) -> usize
     requires { (2 ^ 29 ≤ x) × (2 ^ 29 ≤ y) × (x ≤ 2 ^ 31) × (y ≤ 2 ^ 31) × (pw ≤ 8448) × (a.dx ≤ 1) × (a.dy ≤ 1) }
     ensures { result ≡ first_at a pw (sub_ℕ x (2 ^ 29)) (sub_ℕ y (2 ^ 29)) }
 {
-    (y - coords::base::<4>() + a.dy as usize) * pw + (x - coords::base::<4>() + a.dx as usize)
+    let base = coords::base::<4>();
+    (y - base + a.dy as usize) * pw + (x - base + a.dx as usize)
 }
 
 fn in_order(k: Phase) -> Phase

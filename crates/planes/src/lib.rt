@@ -104,9 +104,10 @@ fn build_part(f: Padded, x: usize, y: usize, n: usize, h: &mut [u8], v: &mut [u8
         w: f.w,
         h: f.h,
     };
+    let base = coords::base::<4>();
     let aim = Aim::<4> {
-        x: x + coords::LUMA_BASE,
-        y: y + coords::LUMA_BASE,
+        x: x + base,
+        y: y + base,
         fx: 0,
         fy: 0,
         w: n,

@@ -57,8 +57,8 @@ average_block-requires c =
     let k = cornered c.args.cw c.args.pad b.x b.y b.mv.x b.mv.y c.place_of-pw.ensures in
     let near : Near c.phase_at.result.p × Near c.phase_at.result.q = rw c.phase_at.ensures (phase_near _ _) in
     let four : (c.phase_at.result.p.kind < 4) × (c.phase_at.result.q.kind < 4) = rw c.phase_at.ensures (phase_four _ _) in
-    let fx = simp (to_z-of_z wx) at c.luma_phase-fx.ensures.0 in
-    let fy = simp (to_z-of_z wy) at c.luma_phase-fy.ensures.0 in
+    let fx = simp (to_z-of_z wx) at c.phase-fx.ensures.0 in
+    let fy = simp (to_z-of_z wy) at c.phase-fy.ensures.0 in
     let width = averaged_width b.w c.if-at_quarter.true
     (ap (λ (t : Bool). t && bad_width b.w) (c.at_quarter.ensures ∙ ap₂ at_quarter fx fy) ∙ block_width _ _ _ _ _ _ _ _ _ _ _ _ _ _ c.in_ok-check_block.ensures) in (
       width,
@@ -74,8 +74,8 @@ returns-then-at_quarter c =
     let b = c.args.block in
     let k = cornered c.args.cw c.args.pad b.x b.y b.mv.x b.mv.y c.place_of-pw.ensures in
     let four : (c.phase_at.result.p.kind < 4) × (c.phase_at.result.q.kind < 4) = rw c.phase_at.ensures (phase_four _ _) in
-    let fx = simp (to_z-of_z wx) at c.luma_phase-fx.ensures.0 in
-    let fy = simp (to_z-of_z wy) at c.luma_phase-fy.ensures.0 in (
+    let fx = simp (to_z-of_z wx) at c.phase-fx.ensures.0 in
+    let fy = simp (to_z-of_z wy) at c.phase-fy.ensures.0 in (
       c.in_ok-check_block.ensures,
       found_averaged _ _ _ _ _ _ _ _ _ _ k wx.sfits wy.sfits _ _ _ _ (c.phase_at.ensures ∙ ap₂ phase_of fx fy)
           (picked _ _ _ _ _ _ four.0, c.first_at-i.ensures) (picked _ _ _ _ _ _ four.1, c.first_at-j.ensures) c.tail-a.ensures c.tail-b.ensures c.average_block.ensures,
@@ -105,10 +105,10 @@ returns c =
     let b = c.args.block in
     let k = cornered c.args.cw c.args.pad b.x b.y b.mv.x b.mv.y c.place_of-pw.ensures in
     let four : (c.phase_at.result.p.kind < 4) × (c.phase_at.result.q.kind < 4) = rw c.phase_at.ensures (phase_four _ _) in
-    let fx = simp (to_z-of_z wx) at c.luma_phase-fx.ensures.0 in
-    let fy = simp (to_z-of_z wy) at c.luma_phase-fy.ensures.0 in
+    let fx = simp (to_z-of_z wx) at c.phase-fx.ensures.0 in
+    let fy = simp (to_z-of_z wy) at c.phase-fy.ensures.0 in
     let twice =
-    ap (λ (f : Phase). f.p) c.phase_at.ensures ∙ one_anchor _ _ c.luma_phase-fx.ensures.1 c.luma_phase-fy.ensures.1 (sym c.at_quarter.ensures ∙ c.if-at_quarter.false)
+    ap (λ (f : Phase). f.p) c.phase_at.ensures ∙ one_anchor _ _ c.phase-fx.ensures.1 c.phase-fy.ensures.1 (sym c.at_quarter.ensures ∙ c.if-at_quarter.false)
     ∙ sym (ap (λ (f : Phase). f.q) c.phase_at.ensures) in (
       c.in_ok-check_block.ensures,
       found_copied _ _ _ _ _ _ _ _ _ _ k wx.sfits wy.sfits _ _ _ _ (c.phase_at.ensures ∙ ap₂ phase_of fx fy) (picked _ _ _ _ _ _ four.0, c.first_at-i.ensures) twice c.copy_block.ensures,

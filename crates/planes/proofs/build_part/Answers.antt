@@ -10,7 +10,7 @@ pub returns-in-Some : goal.returns-in-Some
 returns-in-Some c =
     let a = c.args in
     let f = a.f in
-    let l : Lies (length f.samples.now) 0 f.w f.w f.h (a.x + 2 ^ 29) (a.y + 2 ^ 29) (2 ^ 29 + 2) (a.n + 5) 6 21 c.in-Some.at = c.in-Some.ensures in
+    let l : Lies (length f.samples.now) 0 f.w f.w f.h (a.x + 2 ^ 29) (a.y + 2 ^ 29) (2 ^ 29 + 2) (a.n + 5) 6 21 c.in-Some.at = rw c.base-base.ensures at c.in-Some.ensures in
     part f.samples.now f.w f.h a.x a.y a.n (λ i. window_at f.samples.now c.in-Some.at f.w i 0)
     (λ x i j b p q. place_windows f.samples.now l x 0 i j (omega arith) (omega arith))
     _ _ _ _ c.build_lanes.ensures
@@ -21,5 +21,5 @@ returns-in-None c =
     let f = a.f in
     part f.samples.now f.w f.h a.x a.y a.n (λ i. window_at c.tile_into.new.tile 0 (a.n + 5) i 0)
     (λ x i j b p q.
-    in_tile f.samples.now _ 0 f.w f.w f.h (a.x + 2 ^ 29) (a.y + 2 ^ 29) (2 ^ 29 + 2) (a.n + 5) 6 c.tile_into.ensures x 0 i j (omega arith) (omega arith))
+    in_tile f.samples.now _ 0 f.w f.w f.h (a.x + 2 ^ 29) (a.y + 2 ^ 29) (2 ^ 29 + 2) (a.n + 5) 6 (rw c.base-base.ensures at c.tile_into.ensures) x 0 i j (omega arith) (omega arith))
     _ _ _ _ c.build_lanes-in-None.ensures
