@@ -137,7 +137,7 @@ hpel_hpel_block κs x s t p q a b = (one_answer p q (a.0 ∙ sym b.0), cc)
 -- ---- The lent scratch, free after 0 (`scratch_kept` in crates/lent/proofs/Only.antt)
 
 pub lent_luma_arrays : (κs : Lfts 5) → Determined (lent-luma-arrays-reads.Post κs) (λ s. s.1.1.1.1.1.1.0.now ∷ [])
-lent_luma_arrays κs x s t p q a b = (one_answer p q (a.0 ∙ sym b.0), cc)
+lent_luma_arrays κs x s t p q a b = (one_answer p q (a.answer ∙ sym b.answer), cc)
 
 -- ---- The calls as C has them
 
