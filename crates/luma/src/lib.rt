@@ -1,7 +1,7 @@
 // Luma prediction from a plain picture, and the average of two rows.
 #![tactic(auto)]
 
-ghost use Rattle.std.specs.Prelude.{◌≡◌, ◌*◌, ◌≤◌, length};
+ghost use Rattle.std.specs.Prelude.{◌≡◌, length};
 ghost use Rattle.terms.specs.Refusal.{answered};
 ghost use Rattle.grid.specs.Block.{drawn};
 ghost use Rattle.place.specs.Refusal.{plain_block_refusal};
@@ -9,28 +9,12 @@ ghost use Rattle.place.specs.Outcome.{after};
 ghost use Rattle.luma.specs.Luma.{predicted_luma};
 ghost use Rattle.luma.specs.Average.{row_refusal, row_mean};
 
-use place::area::{Aim, Area};
+use place::area::Aim;
 use place::limits;
 use route::component::Luma;
 use terms::block::Block;
 use terms::plane::Plane;
 use terms::refusal::Refusal;
-
-// A block of which nothing is refused.
-fn predict(plane: Plane, block: Block, out: &mut [u8])
-    requires { 0 ≡ plain_block_refusal 16 (length plane.samples.now) plane.w plane.h block.x block.y block.w block.h (length out.old) }
-    ensures { out.new ≡ drawn out.old block.w block.h (predicted_luma plane.entry.samples.now plane.entry.w plane.entry.h block.x block.y block.mv.x block.mv.y) }
-{
-    let area = Area {
-        samples: plane.samples,
-        at: 0,
-        stride: plane.w,
-        w: plane.w,
-        h: plane.h,
-    };
-    let aim = Aim::of(block);
-    route::predict::<Luma, 4, 441>(area, aim, out);
-}
 
 // The block, moved by its vector in quarter samples, into out by rows.
 pub fn mc_luma(plane: Plane, block: Block, out: &mut [u8]) -> Result<(), Refusal>
@@ -38,7 +22,8 @@ pub fn mc_luma(plane: Plane, block: Block, out: &mut [u8]) -> Result<(), Refusal
         × (out.new ≡ after (answered result) out.old (drawn out.old block.w block.h (predicted_luma plane.entry.samples.now plane.entry.w plane.entry.h block.x block.y block.mv.x block.mv.y))) }
 {
     limits::check_plain_block(limits::LUMA, plane, block, out.len())?;
-    predict(plane, block, out);
+    let aim = Aim::of(block);
+    route::predict_plain::<Luma, 4, 441>(plane, aim, out);
     Ok(())
 }
 

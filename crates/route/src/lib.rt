@@ -12,6 +12,7 @@ use grid::{Size, View};
 use kernels::full;
 use place::area::{Aim, Area};
 use place::{coords, tiles};
+use terms::plane::Plane;
 
 pub mod component;
 
@@ -181,7 +182,26 @@ pub fn predict<C: Component<STEPS, TILE>, const STEPS: usize, const TILE: usize>
     predict_from::<C, STEPS, TILE>(spot, area, aim, out);
 }
 
-// The same with the tile in a lent slice.
+// The same of a plain picture, which is the area of its own sides.
+pub fn predict_plain<C: Component<STEPS, TILE>, const STEPS: usize, const TILE: usize>(
+    plane: Plane,
+    aim: Aim<STEPS>,
+    out: &mut [u8],
+)
+    requires { (1 ≤ plane.w) × (1 ≤ plane.h) × ((plane.h - 1) * plane.w + plane.w ≤ length plane.samples.now) × (aim.w * aim.h ≤ length out.old) }
+    ensures { out.new ≡ drawn out.old aim.entry.w aim.entry.h (near_by C.sample plane.entry.samples.now 0 plane.entry.w plane.entry.w plane.entry.h (2 ^ 31 / STEPS + C.BEFORE) aim.entry.x aim.entry.y aim.entry.fx aim.entry.fy) }
+{
+    let area = Area {
+        samples: plane.samples,
+        at: 0,
+        stride: plane.w,
+        w: plane.w,
+        h: plane.h,
+    };
+    predict::<C, STEPS, TILE>(area, aim, out);
+}
+
+// The block of any phase, with the tile in a lent slice.
 pub fn predict_with<C: Component<STEPS, TILE>, const STEPS: usize, const TILE: usize>(
     tile: &mut [u8],
     area: Area,

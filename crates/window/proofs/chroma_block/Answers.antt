@@ -8,7 +8,7 @@ pub look-seen-requires : goal.look-seen-requires
 look-seen-requires c =
     let g = c.args.plane.g in
     let m = c.of-aim.result in
-    (omega arith, (omega arith, small 0 1 (2 ^ 28) m.x m.y m.w m.h g.pw g.ph g.pad (omega arith) c.reaches-whole.ensures))
+    (omega arith, (omega arith, small _ _ (2 ^ 28) m.x m.y m.w m.h g.pw g.ph g.pad (omega arith) c.reaches-whole.ensures))
 
 pub returns : goal.returns
 returns c =
