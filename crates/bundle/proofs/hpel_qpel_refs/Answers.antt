@@ -1,0 +1,5 @@
+-- What the slice form says of the bundle's parts.
+use Rattle.bundle.proofs.hpel_qpel_refs.Goals as goal
+
+pub returns : goal.returns
+returns c = c.hpel_qpel_refs.ensures
