@@ -14,7 +14,7 @@ pub fn avg2(x: u8, y: u8) -> u8
     ((taps::wide(x) + taps::wide(y) + 1) / 2) as u8
 }
 
-// The averages of the first bytes of two rows, as many as z holds. It is best local: of any other z the compiler first asks whether it overlaps a row.
+// The averages of the first bytes of two rows, as many as z holds. It is best local: of any other z the compiler first asks whether it overlaps a row. By index: what was written through a slice's iterator, no proof knows once it is gone.
 pub fn mean_lanes(a: &[u8], b: &[u8], z: &mut [u8])
     requires { (length z.old ≤ length a.now) × (length z.old ≤ length b.now) }
     ensures { z.new ≡ tab (length z.old) (λ i. mean (get_or a.now i 0) (get_or b.now i 0)) }

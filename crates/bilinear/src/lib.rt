@@ -32,7 +32,7 @@ fn sample(v: View, f: Fraction, x: usize, y: usize) -> u8
         / 64) as u8
 }
 
-// ROWS rows of eight lanes. Four rows in one loop body are vector code; eight samples alone are not: the compiler unrolls them first.
+// ROWS rows of eight lanes. Four rows in one loop body are vector code; eight samples alone are not: the compiler unrolls them first. By index: what was written through a slice's iterator, no proof knows once it is gone.
 fn fill<const ROWS: usize>(v: View, f: Fraction, z: &mut [u8])
     requires { (8 * ROWS ≤ length z.old) × (f.x < 8) × (f.y < 8) × (v.at + ROWS * v.stride + 9 ≤ length v.samples.now) }
     ensures { (j i : ℕ) → j < ROWS → i < 8 → get_or z.new (8 * j + i) 0 ≡ chroma_sample f.x f.y (window_at v.entry.samples.now v.entry.at v.entry.stride i j) }

@@ -12,7 +12,7 @@ use grid::{Size, View};
 use lanes::Kernel;
 use samples::taps;
 
-// n sums down, the first with its first tap at p, into w from o on. What it tells of samples is that they are bytes.
+// n sums down, the first with its first tap at p, into w from o on. What it tells of samples is that they are bytes. Loops over lanes go by index, here and below: what was written through a slice's iterator, no proof knows once it is gone.
 fn sums(t: &[u8], p: usize, ts: usize, n: usize, w: &mut [u16], o: usize)
     requires { (p + n + 5 * ts ≤ length t.now) × (o + n ≤ length w.old) }
     ensures { (w.new ≡ put w.old o n (λ i. biased 2550 (from t.now (p + i) ts))) × ((k : ℕ) → get_or t.now k 0 < 256) }

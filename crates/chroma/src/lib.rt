@@ -15,7 +15,7 @@ use terms::block::Block;
 use terms::plane::Plane;
 use terms::refusal::Refusal;
 
-// The block, moved by its vector in eighth samples, into out by rows.
+// The block, moved by its vector in eighth samples, into out by rows. It reads like the luma call; the paper names both, and each has a rule of its own.
 pub fn mc_chroma(plane: Plane, block: Block, out: &mut [u8]) -> Result<(), Refusal>
     ensures { (answered result ≡ plain_block_refusal 8 (length plane.entry.samples.now) plane.entry.w plane.entry.h block.x block.y block.w block.h (length out.old))
         × (out.new ≡ after (answered result) out.old (drawn out.old block.w block.h (predicted_chroma plane.entry.samples.now plane.entry.w plane.entry.h block.x block.y block.mv.x block.mv.y))) }

@@ -1,4 +1,4 @@
-// The calls as C has them: numbers, records and byte slices, one thin call over the library's each. The crate inter_c exports them under the same names.
+// The calls as C has them, which is why kinds, refusals and parameters are single numbers here: one thin call over the library's each. The crate inter_c exports them under the same names.
 #![tactic(auto)]
 
 ghost use Rattle.std.specs.Prelude.{◌≡◌, length, min};

@@ -62,7 +62,7 @@ impl<L: Lane> Kernel for Each<L> {
     }
 }
 
-// Row by row, `size.w` wide. A literal width where a row is stored makes the store one move.
+// Row by row, `size.w` wide; by index, as the lanes are: what was written through a slice's iterator, no proof knows once it is gone. A literal width where a row is stored makes the store one move.
 fn rows<K: Kernel, const WIDE: bool>(k: &K, size: Size, dst: &mut [u8])
     requires { ((r : ℕ) → r < size.h → K.Reaches k.now r) × (size.w ≤ 16) × (WIDE ≡ true → size.w ≡ 16) × (size.w * size.h ≤ length dst.old) }
     ensures { dst.new ≡ drawn dst.old size.w size.h (K.sample k.now) }

@@ -35,7 +35,7 @@ fn fill_sides(buf: &mut [u8], o: usize, g: Geometry)
     grid::fill_run(buf, first + g.pw, g.pad, b);
 }
 
-// The margins of the picture's rows, of which the first starts at o.
+// The margins of the picture's rows, of which the first starts at o. Rows go by index: of chunks that were written to, a proof knows the length alone.
 fn fill_rows(buf: &mut [u8], o: usize, g: Geometry)
     requires { (1 ≤ g.pw) × (g.pw + 2 * g.pad ≤ g.stride) × (o + g.ph * g.stride ≤ length buf.old) }
     ensures { buf.new ≡ put buf.old o (g.ph * g.stride) (by_rows g.stride (λ x y. get_or buf.old (o + y * g.stride + from_col g.pad g.pw x) 0)) }

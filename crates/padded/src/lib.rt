@@ -88,7 +88,7 @@ pub fn mc_luma_padded_slices(
     Ok(())
 }
 
-// The chroma block, moved by its vector in eighth samples, into out by rows.
+// The chroma block, moved by its vector in eighth samples, into out by rows. It reads like the luma call; the paper names both, and each has a rule of its own.
 pub fn mc_chroma_padded(
     padded: &[u8],
     g: Geometry,

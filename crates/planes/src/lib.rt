@@ -135,7 +135,7 @@ fn build_part(f: Padded, x: usize, y: usize, n: usize, h: &mut [u8], v: &mut [u8
     }
 }
 
-// Row y of each plane, sixteen samples at a time, then the rest.
+// Row y of each plane, sixteen samples at a time, then the rest; by index, since three planes are written at one place.
 fn build_row(f: Padded, y: usize, h: &mut [u8], v: &mut [u8], c: &mut [u8])
     requires { (y < f.h) × (f.w * f.h ≤ length h.old) × (f.w * f.h ≤ length v.old) × (f.w * f.h ≤ length c.old) }
     ensures { (h.new ≡ put h.old (y * f.entry.w) f.entry.w (λ x. across_at f.entry.samples.now f.entry.w f.entry.h x y))

@@ -35,6 +35,7 @@ fn average_row<const N: usize>(a: &[u8], b: &[u8], p: usize, dst: &mut [u8], o: 
     grid::copy_run(&z, 0, N, dst, o);
 }
 
+// Rows go by index: of chunks that were written to, a proof knows the length alone.
 fn average_rows<const N: usize>(a: &[u8], b: &[u8], stride: usize, h: usize, dst: &mut [u8])
     requires { (N ≤ 16) × ((h - 1) * stride + N ≤ length a.now) × ((h - 1) * stride + N ≤ length b.now) × (N * h ≤ length dst.old) }
     ensures { dst.new ≡ drawn dst.old N h (λ x y. mean (get_or a.now (y * stride + x) 0) (get_or b.now (y * stride + x) 0)) }

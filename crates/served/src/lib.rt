@@ -103,7 +103,7 @@ fn quarter(block: Block) -> bool
     )
 }
 
-// Of `hpel_ref`: a full or half phase.
+// Of `hpel_ref`: a full or half phase. This and the next each say one refusal of the paper; their body is one.
 pub fn check_ref(lent: Lent, block: Block) -> Result<(), Refusal>
     ensures { answered result ≡ ref_refusal lent.f lent.h lent.v lent.c lent.cw lent.ch lent.pad block.x block.y block.w block.h block.mv.x block.mv.y }
 {

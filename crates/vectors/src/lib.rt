@@ -210,6 +210,7 @@ impl Mode {
     }
 }
 
+// Any mode is served, so it comes as a number, as in `inter_partitions`.
 #[tactic(auto, unfolding(crate::specs::Partition::partition_answer))]
 pub fn predict_partition_mv(
     mode: u8,

@@ -32,7 +32,7 @@ struct Sight<'a, const STEPS: usize> {
     aim: Aim<STEPS>,
 }
 
-// On one axis: b samples, with those before and behind, lie inside n samples and their margins.
+// On one axis: b samples, with those before and behind, lie inside n samples and their margins. Each stands in a record of its own, so they come as numbers.
 fn in_reach<const STEPS: usize>(
     at: usize,
     b: usize,
@@ -112,7 +112,7 @@ fn look<'a, const STEPS: usize>(
     }
 }
 
-// A luma block of which nothing is refused.
+// A luma block of which nothing is refused. The four lines stand again below: one function of luma and chroma would need a third word beside padded_luma and padded_chroma.
 pub fn luma_block(plane: PaddedPlane, block: Block, out: &mut [u8])
     requires { (block.x ≤ 65535) × (block.y ≤ 65535) × (1 ≤ block.w) × (block.w ≤ 16) × (1 ≤ block.h) × (block.h ≤ 16) × (block.w * block.h ≤ length out.old) }
     ensures { out.new ≡ drawn out.old block.w block.h (padded_luma plane.entry.samples.now plane.entry.g.stride plane.entry.g.pad plane.entry.g.pw plane.entry.g.ph block.x block.y block.w block.h block.mv.x block.mv.y) }
