@@ -20,12 +20,12 @@ use grid::{Size, View};
 use place::coords;
 use samples::phases;
 use samples::phases::{Anchor, Phase};
-
-// The planes f, h, v and c, by what they hold.
-pub use samples::phases::Kind;
 use served::Lent;
 use terms::block::Block;
 use terms::refusal::Refusal;
+
+// The planes f, h, v and c, by what they hold.
+pub use samples::phases::Kind;
 
 // Where samples lie: their plane, the offset of the block's first sample in it, and the stride.
 #[derive(Clone, Copy, Debug, PartialEq, Eq)]

@@ -14,7 +14,7 @@ use Rattle.samples.specs.declared.phases.Kind.TheVariants.{Full, Across, Down, C
 use Rattle.samples.specs.declared.phases.Anchor.{Anchor}
 use Rattle.samples.specs.declared.phases.Phase.{Phase}
 use Rattle.samples.specs.Tap.{six_tap, clip, half, centre, mean}
-use Rattle.samples.specs.Phase.{Window, plane_number, kind_of, at, anchor_of, anchor, pair, phases, phase_of, luma_sample}
+use Rattle.samples.specs.Phase.{Window, plane_number, at, anchor_of, anchor, pair, phases, phase_of, luma_sample}
 use Rattle.samples.specs.Bilinear.{chroma_sample}
 
 pub both : (a b : Bool) → a && b ≡ true → (a ≡ true) × (b ≡ true)
@@ -49,7 +49,13 @@ pub phase_near : (fx fy : ℕ) → Near (phase_of fx fy).p × Near (phase_of fx 
 phase_near fx fy = entry_near phases table_near (fy * 4 + fx)
 
 -- a number tells which kind it is
-is_kind : (k : Kind) → kind_of (plane_number k) ≡ k
+abbrev pub kind_of : ℕ → Kind
+kind_of zero = Full
+kind_of (suc zero) = Across
+kind_of (suc (suc zero)) = Down
+kind_of (suc (suc (suc n))) = Centre
+
+pub is_kind : (k : Kind) → kind_of (plane_number k) ≡ k
 is_kind Full = refl
 is_kind Across = refl
 is_kind Down = refl
