@@ -1,32 +1,15 @@
 -- An answer in C's form tells which answer of a lookup it is. Assumes nothing.
-use mathlib.Core.Path.{◌≡◌, refl, sym, ap, ◌∙◌}
-use Prim.Native.Nat.{ℕ, zero, suc}
+use mathlib.Core.Path.{◌≡◌, sym, ap}
 use Rattle.std.specs.Prelude.{Result, Ok, Err}
 use Rattle.terms.specs.declared.refusal.Refusal.{Refusal}
 use Rattle.terms.proofs.Number.{one_refusal}
 use Rattle.planes.proofs.Laws.{above_zero}
-use Rattle.hpel.specs.declared.Kind.{Kind}
-use Rattle.hpel.specs.declared.Kind.TheVariants.{Full, Across, Down, Centre}
+use Rattle.samples.proofs.Reach.{one_kind}
 use Rattle.hpel.specs.declared.Spot.{Spot}
 use Rattle.hpel.specs.declared.Pair.{Pair}
 use Rattle.hpel.specs.declared.HpelAt.{HpelAt}
 use Rattle.hpel.specs.declared.HpelPair.{HpelPair}
-use Rattle.hpel.specs.Answer.{plane_number, at_answer, pair_answer}
-
-abbrev kind_of : ℕ → Kind
-kind_of zero = Full
-kind_of (suc zero) = Across
-kind_of (suc (suc zero)) = Down
-kind_of (suc (suc (suc n))) = Centre
-
-is_kind : (k : Kind) → kind_of (plane_number k) ≡ k
-is_kind Full = refl
-is_kind Across = refl
-is_kind Down = refl
-is_kind Centre = refl
-
-one_kind : (k l : Kind) → plane_number k ≡ plane_number l → k ≡ l
-one_kind k l e = sym (is_kind k) ∙ ap kind_of e ∙ is_kind l
+use Rattle.hpel.specs.Answer.{at_answer, pair_answer}
 
 pub one_at : (p q : Result Spot Refusal) → at_answer p ≡ at_answer q → p ≡ q
 one_at (Ok s) (Ok t) e =

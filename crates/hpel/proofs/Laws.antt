@@ -10,7 +10,6 @@ use lib.IntN.{ℤ, sub_ℕ}
 use lib.ListN.{length, take, drop, get_or, length-drop}
 use lib.Seq.{take_all, get_or-drop}
 use lib.Signed.{mag}
-use borrow.Author.Tests.{ltb-true}
 use denote.Ref.{Bor}
 use Rattle.signed.specs.Lift.{up}
 use Rattle.signed.proofs.Diff.{is_pos}
@@ -21,11 +20,13 @@ use Rattle.place.specs.Outcome.{after}
 use Rattle.place.specs.Place.{luma_place, phase}
 use Rattle.place.proofs.Refused.{kept}
 use Rattle.planes.specs.Planes.{wide}
+use Rattle.samples.specs.declared.phases.Kind.{Kind}
+use Rattle.samples.specs.declared.phases.Kind.TheVariants.{Full, Across, Down, Centre}
 use Rattle.samples.specs.declared.phases.Anchor.{Anchor}
 use Rattle.samples.specs.declared.phases.Phase.{Phase}
-use Rattle.samples.specs.Phase.{at, pair, phases, phase_of}
+use Rattle.samples.specs.Phase.{plane_number, pair, phases, phase_of}
 use Rattle.samples.specs.Tap.{mean}
-use Rattle.samples.proofs.Reach.{Near, both, mean_same}
+use Rattle.samples.proofs.Reach.{Near, mean_same}
 use Rattle.hpel.specs.declared.HpelAt.{HpelAt}
 use Rattle.hpel.specs.declared.HpelPair.{HpelPair}
 use Rattle.served.proofs.Laws.{Ok, place_is}
@@ -54,25 +55,6 @@ module _ {w pad x0 y0 pw x y : ℕ} {mvx mvy : ℤ} (k : Cornered w pad x0 y0 mv
   pub place_down : mag mvy < 2 ^ 31 → sub_ℕ y (2 ^ 29) ≡ luma_place y0 mvy pad
   place_down p = ap (λ (n : ℕ). sub_ℕ n (2 ^ 29)) k.down ∙ place_is y0 mvy pad p refl
 
--- ---- the kinds of anchors are four
-
-abbrev all_four : List Phase → Bool
-all_four [] = true
-all_four (x ∷ rest) = (ltb x.p.kind 4 && ltb x.q.kind 4) && all_four rest
-
-entry_four : (l : List Phase) → all_four l ≡ true → (n : ℕ) → let f = get_or l n (pair (at 0 0 0) (at 0 0 0)) in (f.p.kind < 4) × (f.q.kind < 4)
-entry_four [] e n = (omega arith, omega arith)
-entry_four (x ∷ rest) e zero =
-    let t = both (ltb x.p.kind 4) (ltb x.q.kind 4) (both (ltb x.p.kind 4 && ltb x.q.kind 4) (all_four rest) e).0 in (ltb-true _ _ t.0, ltb-true _ _ t.1)
-entry_four (x ∷ rest) e (suc n) = entry_four rest (both (ltb x.p.kind 4 && ltb x.q.kind 4) (all_four rest) e).1 n
-
-table_four : all_four phases ≡ true
-unfolding phases
-table_four = refl
-
-pub phase_four : (fx fy : ℕ) → ((phase_of fx fy).p.kind < 4) × ((phase_of fx fy).q.kind < 4)
-phase_four fx fy = entry_four phases table_four (fy * 4 + fx)
-
 -- ---- the widths of a quarter phase
 
 one_of_three : (a b c : Bool) → not (a || b || c) ≡ false → (b || a) || c ≡ true
@@ -87,13 +69,16 @@ averaged_width bw e g = one_of_three (eqb bw 4) (eqb bw 8) (eqb bw 16) (ap (λ (
 
 -- ---- planes, and where a block lies in them
 
--- the plane of a number below 4, by its place in an array
-pub picked : (f h v c d : Bor (List ℕ)) (n : ℕ) → n < 4 → (get_or (f ∷ h ∷ v ∷ c ∷ []) n d).now ≡ plane_of f.now h.now v.now c.now n
-picked f h v c d zero b = refl
-picked f h v c d (suc zero) b = refl
-picked f h v c d (suc (suc zero)) b = refl
-picked f h v c d (suc (suc (suc zero))) b = refl
-picked f h v c d (suc (suc (suc (suc n)))) b = absurd (omega arith)
+-- the plane of a kind, by its place in an array
+pub picked : (f h v c d : Bor (List ℕ)) (k : Kind) {n : ℕ} → n ≡ plane_number k
+    → (get_or (f ∷ h ∷ v ∷ c ∷ []) n d).now ≡ plane_of f.now h.now v.now c.now (plane_number k)
+picked f h v c d k e = ap (λ (n : ℕ). (get_or (f ∷ h ∷ v ∷ c ∷ []) n d).now) e ∙ by_kind k
+  where
+    by_kind : (k : Kind) → (get_or (f ∷ h ∷ v ∷ c ∷ []) (plane_number k) d).now ≡ plane_of f.now h.now v.now c.now (plane_number k)
+    by_kind Full = refl
+    by_kind Across = refl
+    by_kind Down = refl
+    by_kind Centre = refl
 
 -- what has room in each has room in the one that is named
 plane_room : (f h v c : List ℕ) (m n : ℕ) → m ≤ length f → m ≤ length h → m ≤ length v → m ≤ length c → m ≤ length (plane_of f h v c n)
@@ -120,17 +105,9 @@ last_in pw ph bw n px py a b = omega (arith, mul-le-mul_right pw b)
 -- anchors in order are near as well
 pub order_near : (k : Phase) → Near k.p × Near k.q → Near (in_order k).p × Near (in_order k).q
 unfolding in_order
-order_near k n = go (ltb k.q.kind k.p.kind)
+order_near k n = go (ltb (plane_number k.q.kind) (plane_number k.p.kind))
   where
     go : (b : Bool) → let o = cond b (pair k.q k.p) k in Near o.p × Near o.q
-    go true = (n.1, n.0)
-    go false = n
-
-pub order_four : (k : Phase) → (k.p.kind < 4) × (k.q.kind < 4) → ((in_order k).p.kind < 4) × ((in_order k).q.kind < 4)
-unfolding in_order
-order_four k n = go (ltb k.q.kind k.p.kind)
-  where
-    go : (b : Bool) → let o = cond b (pair k.q k.p) k in (o.p.kind < 4) × (o.q.kind < 4)
     go true = (n.1, n.0)
     go false = n
 
@@ -161,17 +138,17 @@ two_refused n (suc m) k pw px py e h = ap (λ (r : ℕ). two_at r k pw px py) e
 
 -- w is the code's row, and u and v its place
 module _ (n : ℕ) {w pw : ℕ} {u v px py : ℤ} (e : 0 ≡ n) (ew : w ≡ pw) (ex : u ≡ px) (ey : v ≡ py) where
-  pub one_served : {a b : Anchor} {d i : ℕ} → a ≡ b → d ≡ a.kind → i ≡ first_at a w u v
+  pub one_served : {a b : Anchor} {d i : ℕ} → a ≡ b → d ≡ plane_number a.kind → i ≡ first_at a w u v
       → ◌≡◌ {A = HpelAt} (record { refusal = 0; plane = d; offset = i; stride = w }) (one_at n b pw px py)
   one_served {a} {b} g c o =
       ap₂ (λ (d i : ℕ). record { refusal = 0; plane = d; offset = i; stride = w }) c o
       ∙ (λ t. one_at 0 (g t) (ew t) (ex t) (ey t)) ∙ ap (λ (r : ℕ). one_at r b pw px py) e
 
-  pub two_served : {k l : Phase} {c d i j : ℕ} → k ≡ l → c ≡ k.p.kind → d ≡ k.q.kind → i ≡ first_at k.p w u v → j ≡ first_at k.q w u v
+  pub two_served : {k l : Phase} {c d i j : ℕ} → k ≡ l → c ≡ plane_number k.p.kind → d ≡ plane_number k.q.kind → i ≡ first_at k.p w u v → j ≡ first_at k.q w u v
       → ◌≡◌ {A = HpelPair} (record { refusal = 0; plane_a = c; plane_b = d; offset_a = i; offset_b = j; stride = w }) (two_at n l pw px py)
   two_served {k} {l} {i = i} {j = j} g p q o m =
       ap₂ (λ (c d : ℕ). record { refusal = 0; plane_a = c; plane_b = d; offset_a = i; offset_b = j; stride = w }) p q
-      ∙ ap₂ (λ (i j : ℕ). record { refusal = 0; plane_a = k.p.kind; plane_b = k.q.kind; offset_a = i; offset_b = j; stride = w }) o m
+      ∙ ap₂ (λ (i j : ℕ). record { refusal = 0; plane_a = plane_number k.p.kind; plane_b = plane_number k.q.kind; offset_a = i; offset_b = j; stride = w }) o m
       ∙ (λ t. two_at 0 (g t) (ew t) (ex t) (ey t)) ∙ ap (λ (r : ℕ). two_at r l pw px py) e
 
 -- ---- tails
@@ -237,7 +214,7 @@ one_anchor fx fy a b e =
 module _ (f h v c : List ℕ) (w pad x0 y0 : ℕ) (mvx mvy : ℤ) {px py : ℤ} (ex : px ≡ luma_place x0 mvx pad) (ey : py ≡ luma_place y0 mvy pad) where
   -- an anchor as it was looked up: its plane t, and where its samples begin
   abbrev Looked : Anchor → List ℕ → ℕ → Type 0
-  Looked a t i = (t ≡ plane_of f h v c a.kind) × (i ≡ first_at a (wide w pad) px py)
+  Looked a t i = (t ≡ plane_of f h v c (plane_number a.kind)) × (i ≡ first_at a (wide w pad) px py)
 
   abbrev read : Anchor → ℕ → ℕ → ℕ
   read = anchor_at f h v c (wide w pad) (luma_place x0 mvx pad) (luma_place y0 mvy pad)
@@ -256,7 +233,7 @@ module _ (f h v c : List ℕ) (w pad x0 y0 : ℕ) (mvx mvy : ℤ) {px py : ℤ} 
         ap length l.0,
         l.1 ∙ ap₂ (first_at a (wide w pad)) ex ey,
         rows_in (length f) (length h) (length v) (length c) w ht pad x0 y0 bw bh mvx mvy m n a near ok,
-        plane_room f h v c (wide w pad * wide ht pad) a.kind k.f_room k.h_room k.v_room k.c_room,
+        plane_room f h v c (wide w pad * wide ht pad) (plane_number a.kind) k.f_room k.h_room k.v_room k.c_room,
       )
 
   -- and so they are in its view
@@ -284,15 +261,15 @@ module _ (f h v c : List ℕ) (w pad x0 y0 : ℕ) (mvx mvy : ℤ) {px py : ℤ} 
     copied : {d s : List ℕ} {i : ℕ} → Looked k.p s i → k.p ≡ k.q
         → d ≡ drawn out bw bh (λ x y. get_or s (i + y * wide w pad + x) 0) → d ≡ drawn out bw bh (hpel_sample f h v c w pad x0 y0 mvx mvy)
     copied l same g =
-        averaged l (l.0 ∙ ap (λ (a : Anchor). plane_of f h v c a.kind) same, l.1 ∙ ap (λ (a : Anchor). first_at a (wide w pad) px py) same)
+        averaged l (l.0 ∙ ap (λ (a : Anchor). plane_of f h v c (plane_number a.kind)) same, l.1 ∙ ap (λ (a : Anchor). first_at a (wide w pad) px py) same)
         (g ∙ drawn_ext out bw bh _ _ (λ x y _ _. sym (mean_same _)))
 
 -- the same with the row and the place as the code has them
 module _ (f h v c : List ℕ) (w pad x0 y0 : ℕ) (mvx mvy : ℤ) {pw x y : ℕ} (k : Cornered w pad x0 y0 mvx mvy pw x y) (m : mag mvx < 2 ^ 31) (n : mag mvy < 2 ^ 31) where
   abbrev pub Found : Anchor → List ℕ → ℕ → Type 0
-  Found a t i = (t ≡ plane_of f h v c a.kind) × (i ≡ first_at a pw (sub_ℕ x (2 ^ 29)) (sub_ℕ y (2 ^ 29)))
+  Found a t i = (t ≡ plane_of f h v c (plane_number a.kind)) × (i ≡ first_at a pw (sub_ℕ x (2 ^ 29)) (sub_ℕ y (2 ^ 29)))
 
-  found : (a : Anchor) {t : List ℕ} {i : ℕ} → Found a t i → (t ≡ plane_of f h v c a.kind) × (i ≡ first_at a (wide w pad) (sub_ℕ x (2 ^ 29)) (sub_ℕ y (2 ^ 29)))
+  found : (a : Anchor) {t : List ℕ} {i : ℕ} → Found a t i → (t ≡ plane_of f h v c (plane_number a.kind)) × (i ≡ first_at a (wide w pad) (sub_ℕ x (2 ^ 29)) (sub_ℕ y (2 ^ 29)))
   found a l = (l.0, l.1 ∙ ap (λ (r : ℕ). first_at a r (sub_ℕ x (2 ^ 29)) (sub_ℕ y (2 ^ 29))) k.row)
 
   module _ (ht bw bh : ℕ) (ok : Ok (length f) (length h) (length v) (length c) w ht pad x0 y0 bw bh mvx mvy) (a : Anchor) (near : Near a) {t : List ℕ} {i : ℕ} (l : Found a t i) where

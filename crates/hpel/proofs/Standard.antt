@@ -16,10 +16,12 @@ use Rattle.place.specs.Picture.{sample_at, window}
 use Rattle.place.proofs.Refused.{passed, both_inside}
 use Rattle.planes.specs.Planes.{wide, padded_at, across_at, down_at, centre_at, padded_plane}
 use Rattle.planes.proofs.Standard.{swap, full_standard, across_standard, down_standard, centre_standard}
+use Rattle.samples.specs.declared.phases.Kind.{Kind}
+use Rattle.samples.specs.declared.phases.Kind.TheVariants.{Full, Across, Down, Centre}
 use Rattle.samples.specs.declared.phases.Anchor.{Anchor}
 use Rattle.samples.specs.declared.phases.Phase.{Phase}
 use Rattle.samples.specs.Tap.{half, centre, mean}
-use Rattle.samples.specs.Phase.{Window, at, anchor_of, anchor, pair, phases, phase_of, luma_sample}
+use Rattle.samples.specs.Phase.{Window, plane_number, at, anchor_of, anchor, pair, phases, phase_of, luma_sample}
 use Rattle.samples.proofs.Reach.{both, Near, phase_near}
 use Rattle.served.specs.Served.{before, beyond, lent_tests, place_tests, ref_refusal, qpel_refusal, block_refusal}
 use Rattle.hpel.specs.Lookup.{first_at}
@@ -85,11 +87,11 @@ still z u d i e n = along z u d i e ∙ ap (λ (k : ℕ). u +ℤ pos k) (omega a
 
 -- ---- the table: a half sample across is never shifted right, one down never down, the centre never at all
 
-abbrev own : (kind dx dy : ℕ) → Bool
-own zero dx dy = true
-own (suc zero) dx dy = eqb dx 0
-own (suc (suc zero)) dx dy = eqb dy 0
-own (suc (suc (suc n))) dx dy = eqb dx 0 && eqb dy 0
+abbrev own : (kind : Kind) (dx dy : ℕ) → Bool
+own Full dx dy = true
+own Across dx dy = eqb dx 0
+own Down dx dy = eqb dy 0
+own Centre dx dy = eqb dx 0 && eqb dy 0
 
 abbrev own_a : Anchor → Bool
 own_a a = own a.kind a.dx a.dy
@@ -98,7 +100,7 @@ abbrev all_own : List Phase → Bool
 all_own [] = true
 all_own (f ∷ rest) = own_a f.p && (own_a f.q && all_own rest)
 
-entry_own : (l : List Phase) → all_own l ≡ true → (n : ℕ) → let f = get_or l n (pair (at 0 0 0) (at 0 0 0)) in (own_a f.p ≡ true) × (own_a f.q ≡ true)
+entry_own : (l : List Phase) → all_own l ≡ true → (n : ℕ) → let f = get_or l n (pair (at Full 0 0) (at Full 0 0)) in (own_a f.p ≡ true) × (own_a f.q ≡ true)
 entry_own [] e n = (refl, refl)
 entry_own (f ∷ rest) e zero = let t = both (own_a f.p) _ e in (t.0, (both (own_a f.q) _ t.1).0)
 entry_own (f ∷ rest) e (suc n) = entry_own rest (both (own_a f.q) _ (both (own_a f.p) _ e).1).1 n
@@ -110,12 +112,12 @@ table_own = refl
 -- ---- planes as built
 
 module _ (pic : List ℕ) (w ht pad : ℕ) where
-  -- what a plane holds, by its number
-  abbrev built : (kind x y : ℕ) → ℕ
-  built zero = padded_at pic w ht pad
-  built (suc zero) = across_at (padded_plane pic w ht pad) (wide w pad) (wide ht pad)
-  built (suc (suc zero)) = down_at (padded_plane pic w ht pad) (wide w pad) (wide ht pad)
-  built (suc (suc (suc n))) = centre_at (padded_plane pic w ht pad) (wide w pad) (wide ht pad)
+  -- what a plane holds, by its kind
+  abbrev built : (kind : Kind) (x y : ℕ) → ℕ
+  built Full = padded_at pic w ht pad
+  built Across = across_at (padded_plane pic w ht pad) (wide w pad) (wide ht pad)
+  built Down = down_at (padded_plane pic w ht pad) (wide w pad) (wide ht pad)
+  built Centre = centre_at (padded_plane pic w ht pad) (wide w pad) (wide ht pad)
 
   -- at (x, y), which is (u, v) of the picture and the anchor's shift on: the anchor's sample of (u, v)
   module _ (w1 : 1 ≤ w) (h1 : 1 ≤ ht) (x y dx dy : ℕ) (u v : ℤ) (p : pos x -ℤ pos pad ≡ u +ℤ pos dx) (q : pos y -ℤ pos pad ≡ v +ℤ pos dy) where
@@ -127,15 +129,15 @@ module _ (pic : List ℕ) (w ht pad : ℕ) where
     unfolding window
     reads i j k l a b = ap₂ (λ (s t : ℤ). sample_at pic w ht (s -ℤ pos 2) (t -ℤ pos 2)) a b
 
-    is_anchor : (kind : ℕ) → own kind dx dy ≡ true → built kind x y ≡ anchor_of 255 W kind dx dy
-    is_anchor zero e = full_standard pic w ht pad w1 h1 x y ∙ reads 2 2 (2 + dx) (2 + dy) (along _ u dx 2 p) (along _ v dy 2 q)
-    is_anchor (suc zero) e =
+    is_anchor : (kind : Kind) → own kind dx dy ≡ true → built kind x y ≡ anchor_of 255 W kind dx dy
+    is_anchor Full e = full_standard pic w ht pad w1 h1 x y ∙ reads 2 2 (2 + dx) (2 + dy) (along _ u dx 2 p) (along _ v dy 2 q)
+    is_anchor Across e =
         let n : dx ≡ 0 = eqb-true _ _ e in
         across_standard pic w ht pad w1 h1 x y ∙ (λ t. half 255 (λ k. reads k 2 k (2 + dy) (still _ u dx k p n) (along _ v dy 2 q) t))
-    is_anchor (suc (suc zero)) e =
+    is_anchor Down e =
         let n : dy ≡ 0 = eqb-true _ _ e in
         down_standard pic w ht pad w1 h1 x y ∙ (λ t. half 255 (λ k. reads 2 k (2 + dx) k (along _ u dx 2 p) (still _ v dy k q n) t))
-    is_anchor (suc (suc (suc n))) e =
+    is_anchor Centre e =
         let b = both (eqb dx 0) (eqb dy 0) e in
         let m : dx ≡ 0 = eqb-true _ _ b.0 in
         let n : dy ≡ 0 = eqb-true _ _ b.1 in
@@ -147,11 +149,11 @@ module _ (pic : List ℕ) (w ht pad : ℕ) (f h v c f₀ h₀ v₀ c₀ : List �
     (eh : h ≡ drawn h₀ (wide w pad) (wide ht pad) (across_at (padded_plane pic w ht pad) (wide w pad) (wide ht pad)))
     (ev : v ≡ drawn v₀ (wide w pad) (wide ht pad) (down_at (padded_plane pic w ht pad) (wide w pad) (wide ht pad)))
     (ec : c ≡ drawn c₀ (wide w pad) (wide ht pad) (centre_at (padded_plane pic w ht pad) (wide w pad) (wide ht pad))) where
-  holds : (kind x y : ℕ) → x < wide w pad → y < wide ht pad → sample (plane_of f h v c kind) (wide w pad) x y ≡ built pic w ht pad kind x y
-  holds zero x y a b = ap (λ (l : List ℕ). sample l (wide w pad) x y) ef ∙ drawn_sample f₀ _ _ _ x y a b
-  holds (suc zero) x y a b = ap (λ (l : List ℕ). sample l (wide w pad) x y) eh ∙ drawn_sample h₀ _ _ _ x y a b
-  holds (suc (suc zero)) x y a b = ap (λ (l : List ℕ). sample l (wide w pad) x y) ev ∙ drawn_sample v₀ _ _ _ x y a b
-  holds (suc (suc (suc n))) x y a b = ap (λ (l : List ℕ). sample l (wide w pad) x y) ec ∙ drawn_sample c₀ _ _ _ x y a b
+  holds : (kind : Kind) (x y : ℕ) → x < wide w pad → y < wide ht pad → sample (plane_of f h v c (plane_number kind)) (wide w pad) x y ≡ built pic w ht pad kind x y
+  holds Full x y a b = ap (λ (l : List ℕ). sample l (wide w pad) x y) ef ∙ drawn_sample f₀ _ _ _ x y a b
+  holds Across x y a b = ap (λ (l : List ℕ). sample l (wide w pad) x y) eh ∙ drawn_sample h₀ _ _ _ x y a b
+  holds Down x y a b = ap (λ (l : List ℕ). sample l (wide w pad) x y) ev ∙ drawn_sample v₀ _ _ _ x y a b
+  holds Centre x y a b = ap (λ (l : List ℕ). sample l (wide w pad) x y) ec ∙ drawn_sample c₀ _ _ _ x y a b
 
   module _ (x0 y0 bw bh : ℕ) (mvx mvy : ℤ) (s : Serves w ht pad x0 y0 bw bh mvx mvy) (x y : ℕ) (a : x < bw) (b : y < bh) where
     abbrev px : ℤ
@@ -165,7 +167,7 @@ module _ (pic : List ℕ) (w ht pad : ℕ) (f h v c f₀ h₀ v₀ c₀ : List �
     unfolding anchor_at anchor first_at sample
     anchor_standard k n o =
         let i : first_at k (wide w pad) px py + y * wide w pad + x ≡ (mag py + (y + k.dy)) * wide w pad + (mag px + (x + k.dx)) = omega arith in
-        ap (λ (m : ℕ). get_or (plane_of f h v c k.kind) m 0) i
+        ap (λ (m : ℕ). get_or (plane_of f h v c (plane_number k.kind)) m 0) i
         ∙ holds k.kind (mag px + (x + k.dx)) (mag py + (y + k.dy)) (omega (arith, s.columns.to, n.0)) (omega (arith, s.rows.to, n.1))
         ∙ is_anchor pic w ht pad s.w1 s.h1 _ _ k.dx k.dy _ _ (shift x0 pad x k.dx (mag px) mvx s.columns.from)
         (shift y0 pad y k.dy (mag py) mvy s.rows.from) k.kind o

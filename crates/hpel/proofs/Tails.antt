@@ -14,7 +14,7 @@ use Rattle.place.specs.Place.{luma_place, phase}
 use Rattle.planes.specs.Planes.{wide}
 use Rattle.samples.specs.declared.phases.Anchor.{Anchor}
 use Rattle.samples.specs.declared.phases.Phase.{Phase}
-use Rattle.samples.specs.Phase.{phase_of}
+use Rattle.samples.specs.Phase.{plane_number, phase_of}
 use Rattle.samples.proofs.Reach.{Near, phase_near}
 use Rattle.served.specs.Served.{ref_refusal, qpel_refusal}
 use Rattle.hpel.specs.Lookup.{first_at, in_order, one_at, two_at, ref_at, qpel_at}
@@ -56,7 +56,7 @@ module _ (f h v c : List ℕ) (w ht pad x0 y0 bw bh : ℕ) (mvx mvy : ℤ) where
   first a = first_at a (wide w pad) (luma_place x0 mvx pad) (luma_place y0 mvy pad)
 
   abbrev from : Anchor → List ℕ
-  from a = drop (first a) (plane_of f h v c a.kind)
+  from a = drop (first a) (plane_of f h v c (plane_number a.kind))
 
   -- the samples that the block reads
   abbrev pub read : Anchor → (x y : ℕ) → ℕ
@@ -65,7 +65,7 @@ module _ (f h v c : List ℕ) (w ht pad x0 y0 bw bh : ℕ) (mvx mvy : ℤ) where
   reads : (a : Anchor) {t : List ℕ} → t ≡ from a → (x y : ℕ) → sample t (wide w pad) x y ≡ read a x y
   unfolding sample anchor_at
   reads a e x y =
-      let t = plane_of f h v c a.kind in
+      let t = plane_of f h v c (plane_number a.kind) in
       let i = y * wide w pad + x in
       ap (λ (l : List ℕ). get_or l i 0) e ∙ get_or-drop (first a) t i 0 ∙ ap (λ (n : ℕ). get_or t n 0) (sym (add_assoc (first a) (y * wide w pad) x))
 
@@ -110,7 +110,7 @@ module _ (f h v c : List ℕ) (w ht pad x0 y0 bw bh : ℕ) (mvx mvy : ℤ) where
   module _ (p : mag mvx < 2 ^ 31) (q : mag mvy < 2 ^ 31) where
     some_left : Ok (length f) (length h) (length v) (length c) w ht pad x0 y0 bw bh mvx mvy → (a : Anchor) → Near a → {t : List ℕ} → t ≡ from a → t ≡ [] → ⊥
     some_left ok a near e z =
-        omega (arith, ok, ap length (sym e ∙ z), length-drop (first a) (plane_of f h v c a.kind), rows_room f h v c w pad x0 y0 mvx mvy refl refl ht bw bh p q ok a near (refl, refl))
+        omega (arith, ok, ap length (sym e ∙ z), length-drop (first a) (plane_of f h v c (plane_number a.kind)), rows_room f h v c w pad x0 y0 mvx mvy refl refl ht bw bh p q ok a near (refl, refl))
 
     pub view_empty : EmptyWhen one view
     view_empty = (

@@ -15,7 +15,7 @@ use Rattle.planes.specs.Planes.{wide}
 use Rattle.samples.specs.declared.phases.Anchor.{Anchor}
 use Rattle.samples.specs.declared.phases.Phase.{Phase}
 use Rattle.samples.specs.Tap.{mean}
-use Rattle.samples.specs.Phase.{pair}
+use Rattle.samples.specs.Phase.{plane_number, pair}
 use Rattle.samples.proofs.Reach.{mean_same}
 use Rattle.served.specs.Served.{at_quarter, place_tests, ref_refusal, qpel_refusal}
 use Rattle.hpel.specs.Lookup.{in_order, one_at, two_at, ref_at, qpel_at}
@@ -59,7 +59,7 @@ phase_below (negsuc n) = omega arith
 -- the mean of two anchors does not depend on their order
 either : (k : Phase) (g : Anchor → ℕ) → mean (g (in_order k).p) (g (in_order k).q) ≡ mean (g k.p) (g k.q)
 unfolding in_order mean
-either k g = go (ltb k.q.kind k.p.kind)
+either k g = go (ltb (plane_number k.q.kind) (plane_number k.p.kind))
   where
     go : (b : Bool) → let o = cond b (pair k.q k.p) k in (g o.p + g o.q + 1) / 2 ≡ (g k.p + g k.q + 1) / 2
     go true = ap (λ (n : ℕ). n / 2) (omega arith)

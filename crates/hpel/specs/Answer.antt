@@ -1,19 +1,12 @@
 -- A lookup's answer as C has it, document 01: the number of the refusal and zeros, or 0, the plane by its number, the offset and the stride. Assumes nothing.
-use Rattle.std.specs.Prelude.{ℕ, Result, Ok, Err}
+use Rattle.std.specs.Prelude.{Result, Ok, Err}
 use Rattle.terms.specs.declared.refusal.Refusal.{Refusal}
 use Rattle.terms.specs.Refusal.{number_of}
-use Rattle.hpel.specs.declared.Kind.{Kind}
-use Rattle.hpel.specs.declared.Kind.TheVariants.{Full, Across, Down, Centre}
+use Rattle.samples.specs.Phase.{plane_number}
 use Rattle.hpel.specs.declared.Spot.{Spot}
 use Rattle.hpel.specs.declared.Pair.{Pair}
 use Rattle.hpel.specs.declared.HpelAt.{HpelAt}
 use Rattle.hpel.specs.declared.HpelPair.{HpelPair}
-
-abbrev pub plane_number : Kind → ℕ
-plane_number Full = 0
-plane_number Across = 1
-plane_number Down = 2
-plane_number Centre = 3
 
 abbrev pub at_answer : Result Spot Refusal → HpelAt
 at_answer (Ok s) = record { refusal = 0; plane = plane_number s.plane; offset = s.offset; stride = s.stride }

@@ -5,7 +5,7 @@ use Rattle.place.specs.Place.{luma_place, phase}
 use Rattle.planes.specs.Planes.{wide}
 use Rattle.samples.specs.declared.phases.Anchor.{Anchor}
 use Rattle.samples.specs.declared.phases.Phase.{Phase}
-use Rattle.samples.specs.Phase.{pair, phase_of}
+use Rattle.samples.specs.Phase.{plane_number, pair, phase_of}
 use Rattle.hpel.specs.declared.HpelAt.{HpelAt}
 use Rattle.hpel.specs.declared.HpelPair.{HpelPair}
 use Rattle.served.specs.Served.{ref_refusal, qpel_refusal}
@@ -16,18 +16,18 @@ first_at a pw px py = (mag py + a.dy) * pw + (mag px + a.dx)
 
 -- two anchors in the plane order f, h, v, c
 unfoldable pub in_order : Phase → Phase
-in_order k = cond (ltb k.q.kind k.p.kind) (pair k.q k.p) k
+in_order k = cond (ltb (plane_number k.q.kind) (plane_number k.p.kind)) (pair k.q k.p) k
 
 abbrev pub one_at : (refusal : ℕ) → Anchor → (pw : ℕ) (px py : ℤ) → HpelAt
-one_at zero a pw px py = record { refusal = 0; plane = a.kind; offset = first_at a pw px py; stride = pw }
+one_at zero a pw px py = record { refusal = 0; plane = plane_number a.kind; offset = first_at a pw px py; stride = pw }
 one_at (suc n) a pw px py = record { refusal = suc n; plane = 0; offset = 0; stride = 0 }
 
 abbrev pub two_at : (refusal : ℕ) → Phase → (pw : ℕ) (px py : ℤ) → HpelPair
 two_at zero k pw px py =
     record {
       refusal = 0;
-      plane_a = k.p.kind;
-      plane_b = k.q.kind;
+      plane_a = plane_number k.p.kind;
+      plane_b = plane_number k.q.kind;
       offset_a = first_at k.p pw px py;
       offset_b = first_at k.q pw px py;
       stride = pw;

@@ -5,7 +5,7 @@ use Rattle.place.specs.Outcome.{after}
 use Rattle.place.specs.Place.{luma_place, phase}
 use Rattle.planes.specs.Planes.{wide}
 use Rattle.samples.specs.declared.phases.Anchor.{Anchor}
-use Rattle.samples.specs.Phase.{phase_of}
+use Rattle.samples.specs.Phase.{plane_number, phase_of}
 use Rattle.samples.specs.Tap.{mean}
 use Rattle.hpel.specs.Lookup.{first_at, ref_at, qpel_at}
 
@@ -35,7 +35,7 @@ module _ (f h v c : List ℕ) (w ht pad x0 y0 bw bh : ℕ) (mvx mvy : ℤ) where
 
 -- the sample of an anchor in column x and row y of the block at (px, py), read in the anchor's plane
 unfoldable pub anchor_at : (f h v c : List ℕ) (pw : ℕ) (px py : ℤ) (a : Anchor) (x y : ℕ) → ℕ
-anchor_at f h v c pw px py a x y = get_or (plane_of f h v c a.kind) (first_at a pw px py + y * pw + x) 0
+anchor_at f h v c pw px py a x y = get_or (plane_of f h v c (plane_number a.kind)) (first_at a pw px py + y * pw + x) 0
 
 -- the mean of the phase's two anchors
 unfoldable pub hpel_sample : (f h v c : List ℕ) (w pad x0 y0 : ℕ) (mvx mvy : ℤ) (x y : ℕ) → ℕ

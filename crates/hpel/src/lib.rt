@@ -8,12 +8,12 @@ ghost use Rattle.signed.specs.Lift.{up};
 ghost use Rattle.grid.specs.Block.{drawn};
 ghost use Rattle.place.specs.Outcome.{after};
 ghost use Rattle.place.specs.Place.{phase};
-ghost use Rattle.samples.specs.Phase.{phase_of};
+ghost use Rattle.samples.specs.Phase.{plane_number, phase_of};
 ghost use Rattle.terms.specs.Refusal.{answered};
 ghost use Rattle.planes.specs.Planes.{wide};
 ghost use Rattle.served.specs.Served.{block_refusal};
 ghost use Rattle.hpel.specs.Lookup.{first_at, in_order, ref_at, qpel_at};
-ghost use Rattle.hpel.specs.Answer.{plane_number, at_answer, pair_answer};
+ghost use Rattle.hpel.specs.Answer.{at_answer, pair_answer};
 ghost use Rattle.hpel.specs.Reading.{plane_of, contents, ref_tail, qpel_tails, hpel_sample};
 
 use grid::{Size, View};
@@ -25,26 +25,7 @@ use terms::block::Block;
 use terms::refusal::Refusal;
 
 // The planes f, h, v and c, by what they hold.
-#[derive(Clone, Copy, Debug, PartialEq, Eq)]
-pub enum Kind {
-    Full,
-    Across,
-    Down,
-    Centre,
-}
-
-impl Kind {
-    pub fn number(self) -> u32
-        ensures { result ≡ plane_number self }
-    {
-        match self {
-            Kind::Full => 0,
-            Kind::Across => 1,
-            Kind::Down => 2,
-            Kind::Centre => 3,
-        }
-    }
-}
+pub use samples::phases::Kind;
 
 // Where samples lie: their plane, the offset of the block's first sample in it, and the stride.
 #[derive(Clone, Copy, Debug, PartialEq, Eq)]
@@ -145,22 +126,10 @@ fn in_order(k: Phase) -> Phase
 {
     let p = k.p;
     let q = k.q;
-    if q.kind < p.kind {
+    if q.kind.number() < p.kind.number() {
         return Phase { p: q, q: p };
     }
     k
-}
-
-fn kind_of(a: Anchor) -> Kind
-    requires { a.kind < 4 }
-    ensures { plane_number result ≡ a.kind }
-{
-    match a.kind {
-        0 => Kind::Full,
-        1 => Kind::Across,
-        2 => Kind::Down,
-        _ => Kind::Centre,
-    }
 }
 
 // A block's place in planes whose rows have pw samples, 2^29 up.
@@ -219,7 +188,7 @@ pub fn hpel_ref_at<'a>(
     let a = anchors(block).p;
     let Corner { pw, x, y } = place_of(cw, pad, block);
     Ok(Spot {
-        plane: kind_of(a),
+        plane: a.kind,
         offset: first_at(a, pw, x, y),
         stride: pw,
     })
@@ -251,8 +220,8 @@ pub fn hpel_qpel_refs_at<'a>(
     let Phase { p: a, q: b } = in_order(anchors(block));
     let Corner { pw, x, y } = place_of(cw, pad, block);
     Ok(Pair {
-        plane_a: kind_of(a),
-        plane_b: kind_of(b),
+        plane_a: a.kind,
+        plane_b: b.kind,
         offset_a: first_at(a, pw, x, y),
         offset_b: first_at(b, pw, x, y),
         stride: pw,
@@ -356,14 +325,14 @@ pub fn hpel_block<'a>(
     let i = first_at(p, pw, x, y);
     if served::at_quarter(fx, fy) {
         let j = first_at(q, pw, x, y);
-        let a = tail(planes[p.kind as usize], i);
-        let b = tail(planes[q.kind as usize], j);
+        let a = tail(planes[p.kind.number() as usize], i);
+        let b = tail(planes[q.kind.number() as usize], j);
         rows::average_block(a, b, pw, size, out);
         return Ok(());
     }
     // Full and half phases name one anchor twice.
     let view = View {
-        samples: planes[p.kind as usize],
+        samples: planes[p.kind.number() as usize],
         at: i,
         stride: pw,
     };

@@ -7,45 +7,56 @@ use native.Mathlib.Nat.{mul-le-mul, mul-le-mul_right}
 use native.Mathlib.Omega.{arith}
 use lib.Dec.{leb, eqb}
 use lib.ListN.{get_or, length}
+use borrow.Author.Rules.{rules}
 use borrow.Author.Tests.{leb-true, eqb-true}
+use denote.Enum.Bare.{sameb, same_true}
+use Rattle.samples.specs.contracts.phases.Kind.{the_type}
 use Rattle.grid.specs.Block.{drawn}
 use Rattle.grid.specs.Run.{from}
 use Rattle.grid.proofs.Fill.{drawn_at}
 use Rattle.grid.proofs.Loop.{last_row}
+use Rattle.samples.specs.declared.phases.Kind.{Kind}
+use Rattle.samples.specs.declared.phases.Kind.TheVariants.{Full, Across, Down, Centre}
 use Rattle.samples.specs.declared.phases.Anchor.{Anchor}
 use Rattle.samples.specs.declared.phases.Phase.{Phase}
 use Rattle.samples.specs.Tap.{half, mean}
-use Rattle.samples.specs.Phase.{at, anchor, pair, phases, phase_of}
+use Rattle.samples.specs.Phase.{plane_number, at, anchor, pair, phases, phase_of}
 use Rattle.samples.specs.Kernel.{window_at}
-use Rattle.samples.proofs.Reach.{both, Near, phase_near, at_across, at_down}
+use Rattle.samples.proofs.Reach.{both, one_kind, Near, phase_near, at_across, at_down}
 use Rattle.samples.proofs.Tap.{half_cong}
 
 -- ---- the table
 
 -- the second anchor is not full, nor a centre beside a full one; a centre is not shifted
 pub record Fit (f : Phase) : Type 0 where
-  pub not_full : 1 ≤ f.q.kind
-  pub kinds : (f.p.kind ≤ 3) × (f.q.kind ≤ 3)
-  pub beside : f.q.kind ≤ 2 + f.p.kind
-  pub still : (f.p.dx + f.p.dy ≤ 2 * (3 - f.p.kind)) × (f.q.dx + f.q.dy ≤ 2 * (3 - f.q.kind))
+  pub not_full : f.q.kind ≡ Full → ⊥
+  pub beside : f.p.kind ≡ Full → (f.q.kind ≡ Centre → ⊥)
+  pub still : (f.p.kind ≡ Centre → (f.p.dx ≡ 0) × (f.p.dy ≡ 0)) × (f.q.kind ≡ Centre → (f.q.dx ≡ 0) × (f.q.dy ≡ 0))
+
+-- the same by their numbers: a shift stays below what is left to the centre's number
+abbrev bounded : Anchor → Bool
+bounded a = leb (a.dx + a.dy) (2 * (3 - plane_number a.kind))
 
 abbrev fit : Phase → Bool
-fit f =
-    leb 1 f.q.kind && leb f.p.kind 3 && leb f.q.kind 3 && leb f.q.kind (2 + f.p.kind) && leb (f.p.dx + f.p.dy) (2 * (3 - f.p.kind))
-    && leb (f.q.dx + f.q.dy) (2 * (3 - f.q.kind))
+fit f = leb 1 (plane_number f.q.kind) && leb (plane_number f.q.kind) (2 + plane_number f.p.kind) && bounded f.p && bounded f.q
+
+is_still : (a : Anchor) → bounded a ≡ true → a.kind ≡ Centre → (a.dx ≡ 0) × (a.dy ≡ 0)
+is_still a e k =
+    let n : plane_number a.kind ≡ 3 = ap plane_number k in
+    let l : a.dx + a.dy ≤ 2 * (3 - plane_number a.kind) = leb-true _ _ e in
+    (omega arith, omega arith)
 
 is_fit : (f : Phase) → fit f ≡ true → Fit f
 is_fit f e =
-    let a = both (leb 1 f.q.kind && leb f.p.kind 3 && leb f.q.kind 3 && leb f.q.kind (2 + f.p.kind) && leb (f.p.dx + f.p.dy) (2 * (3 - f.p.kind))) _ e in
-    let b = both (leb 1 f.q.kind && leb f.p.kind 3 && leb f.q.kind 3 && leb f.q.kind (2 + f.p.kind)) _ a.0 in
-    let c = both (leb 1 f.q.kind && leb f.p.kind 3 && leb f.q.kind 3) _ b.0 in
-    let d = both (leb 1 f.q.kind && leb f.p.kind 3) _ c.0 in
-    let g = both (leb 1 f.q.kind) _ d.0 in
+    let a = both (leb 1 (plane_number f.q.kind) && leb (plane_number f.q.kind) (2 + plane_number f.p.kind) && bounded f.p) _ e in
+    let b = both (leb 1 (plane_number f.q.kind) && leb (plane_number f.q.kind) (2 + plane_number f.p.kind)) _ a.0 in
+    let c = both (leb 1 (plane_number f.q.kind)) _ b.0 in
+    let l : 1 ≤ plane_number f.q.kind = leb-true _ _ c.0 in
+    let m : plane_number f.q.kind ≤ 2 + plane_number f.p.kind = leb-true _ _ c.1 in
     record {
-      not_full = leb-true _ _ g.0;
-      kinds = (leb-true _ _ g.1, leb-true _ _ d.1);
-      beside = leb-true _ _ c.1;
-      still = (leb-true _ _ b.1, leb-true _ _ a.1);
+      not_full = λ k. let n : plane_number f.q.kind ≡ 0 = ap plane_number k in omega arith;
+      beside = λ k j. let n : plane_number f.p.kind ≡ 0 = ap plane_number k in let o : plane_number f.q.kind ≡ 3 = ap plane_number j in omega arith;
+      still = (is_still f.p b.1, is_still f.q a.1);
     }
 
 abbrev all_fit : List Phase → Bool
@@ -57,7 +68,7 @@ later_fit [] = true
 later_fit (x ∷ rest) = all_fit rest
 
 abbrev none : Phase
-none = pair (at 0 0 0) (at 0 0 0)
+none = pair (at Full 0 0) (at Full 0 0)
 
 entry_fit : (l : List Phase) → all_fit l ≡ true → (n : ℕ) → n < length l → Fit (get_or l n none)
 entry_fit [] e n b = absurd (omega arith)
@@ -87,26 +98,27 @@ near_of f fx fy e = rw e (phase_near fx fy)
 pub fit_of : (f : Phase) (fx fy : ℕ) → f ≡ phase_of fx fy → 1 ≤ fx + fy → fx < 4 → fy < 4 → Fit f
 fit_of f fx fy e a b c = subst Fit (sym e) (phase_fit fx fy a b c)
 
--- anchors that the derived test finds equal are one
-pub same_anchor : (x y : Anchor) → eqb x.kind y.kind && (eqb x.dx y.dx && eqb x.dy y.dy) ≡ true → x ≡ y
+-- what the derived test of two anchors tells
+abbrev alike : (x y : Anchor) → Bool
+alike x y = sameb the_type x.kind y.kind && (eqb x.dx y.dx && eqb x.dy y.dy)
+
+-- anchors that it finds equal are one
+pub same_anchor : (x y : Anchor) → alike x y ≡ true → x ≡ y
 same_anchor x y e =
-    let t = both (eqb x.kind y.kind) (eqb x.dx y.dx && eqb x.dy y.dy) e in
+    let t = both (sameb the_type x.kind y.kind) (eqb x.dx y.dx && eqb x.dy y.dy) e in
     let u = both (eqb x.dx y.dx) (eqb x.dy y.dy) t.1 in
-    let e₁ : x.kind ≡ y.kind = eqb-true _ _ t.0 in
+    let e₁ : x.kind ≡ y.kind = same_true the_type (search rules) _ _ t.0 in
     let e₂ : x.dx ≡ y.dx = eqb-true _ _ u.0 in
     let e₃ : x.dy ≡ y.dy = eqb-true _ _ u.1 in
     let r : ◌≡◌ {A = Anchor} (record { kind = x.kind; dx = x.dx; dy = x.dy }) (record { kind = y.kind; dx = y.dx; dy = y.dy }) = cc in
     r
 
 -- two centres are one anchor
-pub centres : (x y : Anchor) → x.kind ≡ 3 → y.kind ≡ 3 → x.dx + x.dy ≤ 2 * (3 - x.kind) → y.dx + y.dy ≤ 2 * (3 - y.kind)
-    → eqb x.kind y.kind && (eqb x.dx y.dx && eqb x.dy y.dy) ≡ true
-centres x y e f a b =
-    let e₁ : x.dx ≡ 0 = omega arith in
-    let e₂ : x.dy ≡ 0 = omega arith in
-    let f₁ : y.dx ≡ 0 = omega arith in
-    let f₂ : y.dy ≡ 0 = omega arith in
-    rw (e, f, e₁, e₂, f₁, f₂) refl
+pub centres : (f : Phase) → Fit f → f.p.kind ≡ Centre → f.q.kind ≡ Centre → alike f.p f.q ≡ true
+centres f t e g =
+    let x = t.still.0 e in
+    let y = t.still.1 g in
+    rw (e, g, x.0, x.1, y.0, y.1) refl
 
 pub mean_swap : (x y : ℕ) → mean x y ≡ mean y x
 unfolding mean
@@ -120,21 +132,21 @@ full_at t p ts q i j e c r = let f : q + r * ts + c ≡ p + (r + j) * ts + (c + 
 
 -- what `taps_of` tells
 abbrev pub Taps : (k : Anchor) (p ts at apart : ℕ) → Type 0
-Taps k p ts at apart = (k.kind ≡ 1 → (at ≡ p + (2 + k.dy) * ts) × (apart ≡ 1)) × ((k.kind ≡ 1 → ⊥) → (at ≡ p + 2 + k.dx) × (apart ≡ ts))
+Taps k p ts at apart = (k.kind ≡ Across → (at ≡ p + (2 + k.dy) * ts) × (apart ≡ 1)) × ((k.kind ≡ Across → ⊥) → (at ≡ p + 2 + k.dx) × (apart ≡ ts))
 
-module _ (k : Anchor) (p ts q s : ℕ) (taps : Taps k p ts q s) (a : 1 ≤ k.kind) (b : k.kind ≤ 2) where
+module _ (k : Anchor) (p ts q s : ℕ) (taps : Taps k p ts q s) (a : k.kind ≡ Full → ⊥) (b : k.kind ≡ Centre → ⊥) where
   -- across, or down
-  by_kind : (P : Type 0) → (k.kind ≡ 1 → P) → (k.kind ≡ 2 → P) → P
+  by_kind : (P : Type 0) → (k.kind ≡ Across → P) → (k.kind ≡ Down → P) → P
   by_kind P f g = split k.kind refl
     where
-      split : (n : ℕ) → k.kind ≡ n → P
-      split zero e = absurd (omega arith)
-      split (suc zero) e = f e
-      split (suc (suc zero)) e = g e
-      split (suc (suc (suc n))) e = absurd (omega arith)
+      split : (n : Kind) → k.kind ≡ n → P
+      split Full e = absurd (a e)
+      split Across e = f e
+      split Down e = g e
+      split Centre e = absurd (b e)
 
-  down_not : k.kind ≡ 2 → (k.kind ≡ 1 → ⊥)
-  down_not e f = absurd (omega arith)
+  down_not : k.kind ≡ Down → (k.kind ≡ Across → ⊥)
+  down_not e f = let n : ◌≡◌ {A = ℕ} 2 1 = ap plane_number (sym e ∙ f) in omega arith
 
   pub half_at : (t : List ℕ) (c r : ℕ) → half 255 (from t (q + r * ts + c) s) ≡ anchor 255 (window_at t p ts c r) k
   unfolding from window_at

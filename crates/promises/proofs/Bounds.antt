@@ -11,10 +11,12 @@ use lib.ListN.{get_or, get_or-map}
 use lib.Signed.{shr_z, ◌<ℤ◌}
 use Rattle.signed.proofs.Diff.{sub_ind}
 use Rattle.signed.proofs.Linear.{diff, diff_pos, diff_same, linear}
+use Rattle.samples.specs.declared.phases.Kind.{Kind}
+use Rattle.samples.specs.declared.phases.Kind.TheVariants.{Full, Across, Down, Centre}
 use Rattle.samples.specs.declared.phases.Anchor.{Anchor}
 use Rattle.samples.specs.declared.phases.Phase.{Phase}
 use Rattle.samples.specs.Tap.{six_tap, clip, half, centre, mean}
-use Rattle.samples.specs.Phase.{Window, at, anchor_of, anchor, pair, phases, phase_of, luma_sample}
+use Rattle.samples.specs.Phase.{Window, plane_number, at, anchor_of, anchor, pair, phases, phase_of, luma_sample}
 use Rattle.samples.proofs.Tap.{clip_diff}
 use Rattle.samples.proofs.Word.{to_diff}
 use Rattle.samples.proofs.Reach.{one}
@@ -48,22 +50,24 @@ centre_off top (pos n) = (omega arith, omega arith)
 centre_off top (negsuc n) = let a = below top 1024 512 n (omega arith) in (omega arith, omega arith)
 
 -- by the anchor's kind: a full sample is exact, a half sum is a multiple of 32, a centre sum is any number
-abbrev pub low : ℕ → ℕ
-low zero = 0
-low (suc zero) = 480
-low (suc (suc zero)) = 480
-low (suc (suc (suc n))) = 511
+abbrev pub low : Kind → ℕ
+low Full = 0
+low Across = 480
+low Down = 480
+low Centre = 511
 
-abbrev pub high : ℕ → ℕ
-high zero = 0
-high (suc k) = 512
+abbrev pub high : Kind → ℕ
+high Full = 0
+high Across = 512
+high Down = 512
+high Centre = 512
 
-kind_off : (top : ℕ) (W : Window) (kind dx dy : ℕ) → Off (low kind) (high kind) (anchor_of top W kind dx dy) (exact_of top W kind dx dy)
+kind_off : (top : ℕ) (W : Window) (kind : Kind) (dx dy : ℕ) → Off (low kind) (high kind) (anchor_of top W kind dx dy) (exact_of top W kind dx dy)
 unfolding half centre
-kind_off top W zero dx dy = (omega arith, omega arith)
-kind_off top W (suc zero) dx dy = half_off top (six_tap (λ k. pos (W k (2 + dy))))
-kind_off top W (suc (suc zero)) dx dy = half_off top (six_tap (λ k. pos (W (2 + dx) k)))
-kind_off top W (suc (suc (suc n))) dx dy = centre_off top (six_tap (λ i. six_tap (λ k. pos (W i k))))
+kind_off top W Full dx dy = (omega arith, omega arith)
+kind_off top W Across dx dy = half_off top (six_tap (λ k. pos (W k (2 + dy))))
+kind_off top W Down dx dy = half_off top (six_tap (λ k. pos (W (2 + dx) k)))
+kind_off top W Centre dx dy = centre_off top (six_tap (λ i. six_tap (λ k. pos (W i k))))
 
 anchor_off : (top : ℕ) (W : Window) (a : Anchor) → Off (low a.kind) (high a.kind) (anchor top W a) (exact top W a)
 unfolding anchor exact
@@ -72,7 +76,7 @@ anchor_off top W a = kind_off top W a.kind a.dx a.dy
 -- ---- two anchors: their mean P against their exact values x and y
 
 abbrev pub same : Anchor → Anchor → Bool
-same x y = eqb x.kind y.kind && eqb x.dx y.dx && eqb x.dy y.dy
+same x y = eqb (plane_number x.kind) (plane_number y.kind) && eqb x.dx y.dx && eqb x.dy y.dy
 
 -- what the mean adds to d: up to half a level, nothing where both anchors are one
 abbrev pub added : Anchor → Anchor → ℕ
@@ -107,11 +111,11 @@ phase_in top W f =
 abbrev rule : Phase → Ends
 rule f = (max 1 (high f.p.kind + high f.q.kind), (closest f).1)
 
-low_high : (k : ℕ) → (low k < max 1 (high k)) × (high k ≤ 512)
-low_high zero = (omega arith, omega arith)
-low_high (suc zero) = (omega arith, omega arith)
-low_high (suc (suc zero)) = (omega arith, omega arith)
-low_high (suc (suc (suc n))) = (omega arith, omega arith)
+low_high : (k : Kind) → (low k < max 1 (high k)) × (high k ≤ 512)
+low_high Full = (omega arith, omega arith)
+low_high Across = (omega arith, omega arith)
+low_high Down = (omega arith, omega arith)
+low_high Centre = (omega arith, omega arith)
 
 added_most : (b : Bool) → cond b 0 1024 ≤ 1024
 added_most true = omega arith
@@ -127,9 +131,9 @@ wider f P x y h =
 
 -- a table that is a rule of each phase
 pub table_is : (g : Phase → Ends) (l : List Ends) → map g phases ≡ l → (fx fy : ℕ)
-    → let G = at 0 0 0 in get_or l (fy * 4 + fx) (g (pair G G)) ≡ g (phase_of fx fy)
+    → let G = at Full 0 0 in get_or l (fy * 4 + fx) (g (pair G G)) ≡ g (phase_of fx fy)
 table_is g l e fx fy =
-    let G = at 0 0 0 in
+    let G = at Full 0 0 in
     ap (λ (t : List Ends). get_or t (fy * 4 + fx) (g (pair G G))) (sym e) ∙ get_or-map g phases (fy * 4 + fx) (pair G G)
 
 by_kinds : map rule phases ≡ ends

@@ -17,6 +17,8 @@ use Rattle.terms.specs.declared.block.Block as asked
 use Rattle.terms.specs.declared.plane.Plane as given
 use Rattle.terms.specs.declared.refusal.Refusal.{Refusal}
 use Rattle.terms.specs.Refusal.{number_of}
+use Rattle.samples.specs.declared.phases.Kind.{Kind}
+use Rattle.samples.specs.declared.phases.Kind.TheVariants.{Full, Across, Down, Centre}
 use Rattle.samples.specs.Tap.{six_tap, clip, mean}
 use Rattle.samples.specs.Phase.{phases, phase_of, anchor, luma_sample}
 use Rattle.luma.specs.Luma.{predicted_luma}
@@ -32,19 +34,19 @@ use Rattle.promises.specs.Bound.{NearMean}
 -- ---- one fixed grey
 
 -- the exact anchors of a window of one value are that value, where it is 0 or 255
-black : (kind dx dy : ℕ) → exact_of 255 (λ _ _. 0) kind dx dy ≡ 0
+black : (kind : Kind) (dx dy : ℕ) → exact_of 255 (λ _ _. 0) kind dx dy ≡ 0
 unfolding six_tap clip
-black zero dx dy = refl
-black (suc zero) dx dy = refl
-black (suc (suc zero)) dx dy = refl
-black (suc (suc (suc n))) dx dy = refl
+black Full dx dy = refl
+black Across dx dy = refl
+black Down dx dy = refl
+black Centre dx dy = refl
 
-white : (kind dx dy : ℕ) → exact_of 255 (λ _ _. 255) kind dx dy ≡ 261120
+white : (kind : Kind) (dx dy : ℕ) → exact_of 255 (λ _ _. 255) kind dx dy ≡ 261120
 unfolding six_tap clip
-white zero dx dy = refl
-white (suc zero) dx dy = refl
-white (suc (suc zero)) dx dy = refl
-white (suc (suc (suc n))) dx dy = refl
+white Full dx dy = refl
+white Across dx dy = refl
+white Down dx dy = refl
+white Centre dx dy = refl
 
 -- no byte is near the mean on planes of 0 and on planes of 255
 pub no_fixed_grey : (fx fy P : ℕ) → NearMean 255 fx fy (λ _ _. 0) P → NearMean 255 fx fy (λ _ _. 255) P → ⊥

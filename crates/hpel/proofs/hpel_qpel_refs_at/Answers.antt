@@ -1,5 +1,5 @@
 -- An answer of 0 is what `first_at` requires, and the code's place is the definition's, 2^29 up.
-use Rattle.std.proofs.Common.{◌<◌, ap, ◌∙◌, arith, rules}
+use Rattle.std.proofs.Common.{refl, ap, ◌∙◌, arith, rules}
 use Rattle.std.proofs.lemmas.Result.{err_from_is_err_and}
 use mir.Val.{SFits}
 use mir.Syntax.{w32}
@@ -7,7 +7,7 @@ use Rattle.samples.proofs.Reach.{Near, phase_near}
 use Rattle.planes.proofs.Laws.{above_zero}
 use Rattle.served.proofs.Laws.{qpel_ok}
 use Rattle.hpel.specs.Lookup.{in_order, qpel_at}
-use Rattle.hpel.proofs.Laws.{cornered, first_asks, place_across, place_down, phase_four, order_four, order_near, two_refused, two_served}
+use Rattle.hpel.proofs.Laws.{cornered, first_asks, place_across, place_down, order_near, two_refused, two_served}
 use Rattle.hpel.proofs.hpel_qpel_refs_at.Goals as goal
 
 pub returns-in_err-check_qpel : goal.returns-in_err-check_qpel
@@ -22,16 +22,6 @@ place_of-pw-requires c =
     let wy : SFits w32 c.args.block.mv.y = search rules in
     let ok = qpel_ok _ _ _ _ _ _ _ _ _ _ _ _ _ wx.sfits wy.sfits c.in_ok-check_qpel.ensures in
     omega (arith, ok.0)
-
-pub kind_of-requires : goal.kind_of-requires
-kind_of-requires c =
-    let four : (c.in_order.result.p.kind < 4) × (c.in_order.result.q.kind < 4) = rw (c.in_order.ensures, c.anchors.ensures) (order_four _ (phase_four _ _)) in
-    four.0
-
-pub kind_of-requires-2 : goal.kind_of-requires-2
-kind_of-requires-2 c =
-    let four : (c.in_order.result.p.kind < 4) × (c.in_order.result.q.kind < 4) = rw (c.in_order.ensures, c.anchors.ensures) (order_four _ (phase_four _ _)) in
-    four.1
 
 pub first_at-requires : goal.first_at-requires
 first_at-requires c =
@@ -61,4 +51,4 @@ returns c =
     let b = c.args.block in
     let k = cornered c.args.cw c.args.pad b.x b.y b.mv.x b.mv.y c.place_of-pw.ensures in
     two_served _ c.in_ok-check_qpel.ensures k.row (place_across k wx.sfits) (place_down k wy.sfits) (c.in_order.ensures ∙ ap in_order c.anchors.ensures)
-    c.kind_of.ensures c.kind_of-2.ensures c.first_at.ensures c.first_at-2.ensures
+    refl refl c.first_at.ensures c.first_at-2.ensures

@@ -1,5 +1,5 @@
 -- An answer of 0 is what `first_at` requires, and the code's place is the definition's, 2^29 up.
-use Rattle.std.proofs.Common.{◌<◌, ap, arith, rules}
+use Rattle.std.proofs.Common.{refl, ap, arith, rules}
 use Rattle.std.proofs.lemmas.Result.{err_from_is_err_and}
 use mir.Val.{SFits}
 use mir.Syntax.{w32}
@@ -8,7 +8,7 @@ use Rattle.samples.proofs.Reach.{Near, phase_near}
 use Rattle.planes.proofs.Laws.{above_zero}
 use Rattle.served.proofs.Laws.{ref_ok}
 use Rattle.hpel.specs.Lookup.{ref_at}
-use Rattle.hpel.proofs.Laws.{cornered, first_asks, place_across, place_down, phase_four, one_refused, one_served}
+use Rattle.hpel.proofs.Laws.{cornered, first_asks, place_across, place_down, one_refused, one_served}
 use Rattle.hpel.proofs.hpel_ref_at.Goals as goal
 
 pub returns-in_err-check_ref : goal.returns-in_err-check_ref
@@ -23,11 +23,6 @@ place_of-pw-requires c =
     let wy : SFits w32 c.args.block.mv.y = search rules in
     let ok = ref_ok _ _ _ _ _ _ _ _ _ _ _ _ _ wx.sfits wy.sfits c.in_ok-check_ref.ensures in
     omega (arith, ok.0)
-
-pub kind_of-requires : goal.kind_of-requires
-kind_of-requires c =
-    let four : (c.anchors.result.p.kind < 4) × (c.anchors.result.q.kind < 4) = rw c.anchors.ensures (phase_four _ _) in
-    four.0
 
 pub first_at-requires : goal.first_at-requires
 first_at-requires c =
@@ -47,4 +42,4 @@ returns c =
     let b = c.args.block in
     let k = cornered c.args.cw c.args.pad b.x b.y b.mv.x b.mv.y c.place_of-pw.ensures in
     one_served _ c.in_ok-check_ref.ensures k.row (place_across k wx.sfits) (place_down k wy.sfits) (ap (λ (f : Phase). f.p) c.anchors.ensures)
-    c.kind_of.ensures c.first_at.ensures
+    refl c.first_at.ensures

@@ -5,6 +5,7 @@ use Prim.Native.Nat.{◌+◌}
 use native.Mathlib.Omega.{arith}
 use lib.ListN.{length}
 use Rattle.grid.proofs.Fill.{drawn_ext}
+use Rattle.samples.specs.declared.phases.Kind.TheVariants.{Centre}
 use Rattle.samples.specs.declared.phases.Anchor.{Anchor}
 use Rattle.samples.specs.Tap.{mean}
 use Rattle.samples.proofs.Reach.{at_full_lem, luma_one, luma_two}
@@ -17,7 +18,7 @@ anchor_block-requires c =
     let n = near_of f c.args.fx c.args.fy c.phase_at-f.ensures in
     let t = fit_of f c.args.fx c.args.fy c.phase_at-f.ensures (omega arith) (omega arith) (omega arith) in
     let e = ap (λ (a : Anchor). a.kind) (same_anchor f.p f.q (sym c.if-eq.ensures)) in
-    omega (arith, n, e, t.not_full, t.kinds)
+    (λ k. t.not_full (sym e ∙ k), n.0.0, n.0.1, omega arith, omega arith, omega arith, omega arith)
 
 pub returns-then-eq : goal.returns-then-eq
 returns-then-eq c =
@@ -31,22 +32,22 @@ overflow_mul-at c =
     let n = near_of f c.args.fx c.args.fy c.phase_at-f.ensures in
     omega (arith, full_in v.at v.stride c.args.size.h (length v.samples.now) f.p.dx f.p.dy n.0.0 n.0.1 (omega arith) (omega arith))
 
-pub overflow_add-at-then-x-eq-FULL : goal.overflow_add-at-then-x-eq-FULL
-overflow_add-at-then-x-eq-FULL c =
+pub overflow_add-at-in-Full-default : goal.overflow_add-at-in-Full-default
+overflow_add-at-in-Full-default c =
     let v = c.args.v in
     let f = c.phase_at-f.result in
     let n = near_of f c.args.fx c.args.fy c.phase_at-f.ensures in
     omega (arith, full_in v.at v.stride c.args.size.h (length v.samples.now) f.p.dx f.p.dy n.0.0 n.0.1 (omega arith) (omega arith))
 
-pub overflow_add-at-then-x-eq-FULL-2 : goal.overflow_add-at-then-x-eq-FULL-2
-overflow_add-at-then-x-eq-FULL-2 c =
+pub overflow_add-at-in-Full-default-2 : goal.overflow_add-at-in-Full-default-2
+overflow_add-at-in-Full-default-2 c =
     let v = c.args.v in
     let f = c.phase_at-f.result in
     let n = near_of f c.args.fx c.args.fy c.phase_at-f.ensures in
     omega (arith, full_in v.at v.stride c.args.size.h (length v.samples.now) f.p.dx f.p.dy n.0.0 n.0.1 (omega arith) (omega arith))
 
-pub overflow_add-at-then-x-eq-FULL-3 : goal.overflow_add-at-then-x-eq-FULL-3
-overflow_add-at-then-x-eq-FULL-3 c =
+pub overflow_add-at-in-Full-default-3 : goal.overflow_add-at-in-Full-default-3
+overflow_add-at-in-Full-default-3 c =
     let v = c.args.v in
     let f = c.phase_at-f.result in
     let n = near_of f c.args.fx c.args.fy c.phase_at-f.ensures in
@@ -58,15 +59,16 @@ mixed_anchor-requires c =
     let f = c.phase_at-f.result in
     let n = near_of f c.args.fx c.args.fy c.phase_at-f.ensures in
     let t = fit_of f c.args.fx c.args.fy c.phase_at-f.ensures (omega arith) (omega arith) (omega arith) in
-    omega (arith, n, t.not_full, t.beside, c.if-x-eq-FULL.true, full_in v.at v.stride c.args.size.h (length v.samples.now) f.p.dx f.p.dy n.0.0 n.0.1 (omega arith) (omega arith))
+    let room = full_in v.at v.stride c.args.size.h (length v.samples.now) f.p.dx f.p.dy n.0.0 n.0.1 (omega arith) (omega arith) in
+    (t.not_full, t.beside c.in-Full-default.is-0, n.1.0, n.1.1, omega arith, omega (arith, room), omega arith, omega arith, omega arith)
 
-pub returns-then-x-eq-FULL : goal.returns-then-x-eq-FULL
-returns-then-x-eq-FULL c =
+pub returns-in-Full-default : goal.returns-in-Full-default
+returns-in-Full-default c =
     let v = c.args.v in
     let f = c.phase_at-f.result in
     c.mixed_anchor.ensures
     ∙ drawn_ext _ _ _ _ _ (λ u r _ _.
-    ap₂ mean (full_at v.samples.now v.at v.stride _ (2 + f.p.dx) (2 + f.p.dy) (omega arith) u r ∙ sym (at_full_lem 255 _ f.p c.if-x-eq-FULL.true)) refl
+    ap₂ mean (full_at v.samples.now v.at v.stride _ (2 + f.p.dx) (2 + f.p.dy) (omega arith) u r ∙ sym (at_full_lem 255 _ f.p c.in-Full-default.is-0)) refl
     ∙ luma_two 255 c.args.fx c.args.fy _ f c.phase_at-f.ensures)
 
 -- the first is no centre: the two would be one anchor
@@ -75,22 +77,22 @@ luma_between-requires c =
     let f = c.phase_at-f.result in
     let n = near_of f c.args.fx c.args.fy c.phase_at-f.ensures in
     let t = fit_of f c.args.fx c.args.fy c.phase_at-f.ensures (omega arith) (omega arith) (omega arith) in
-    let d : f.p.kind ≡ 3 → ⊥ = λ e. false≢true (c.if-eq.ensures ∙ centres f.p f.q e c.if-y-eq-CENTRE.true t.still.0 t.still.1) in
-    omega (arith, n, d, t.kinds, c.if-x-eq-FULL.false, c.if-y-eq-CENTRE.true)
+    let one : f.p.kind ≡ Centre → ⊥ = λ e. false≢true (c.if-eq.ensures ∙ centres f t e c.in_default-Centre.is-1) in
+    (t.not_full, n.1.0, n.1.1, c.in_default-Centre.not-Full-0, one, n.0.0, n.0.1, omega arith, omega arith, omega arith, omega arith, omega arith)
 
-pub returns-then-y-eq-CENTRE : goal.returns-then-y-eq-CENTRE
-returns-then-y-eq-CENTRE c =
+pub returns-in_default-Centre : goal.returns-in_default-Centre
+returns-in_default-Centre c =
     c.luma_between.ensures
     ∙ drawn_ext _ _ _ _ _ (λ u r _ _. mean_swap _ _ ∙ luma_two 255 c.args.fx c.args.fy _ c.phase_at-f.result c.phase_at-f.ensures)
 
-pub luma_between-requires-2 : goal.luma_between-requires-2
-luma_between-requires-2 c =
+pub luma_between-requires-in_default : goal.luma_between-requires-in_default
+luma_between-requires-in_default c =
     let f = c.phase_at-f.result in
     let n = near_of f c.args.fx c.args.fy c.phase_at-f.ensures in
     let t = fit_of f c.args.fx c.args.fy c.phase_at-f.ensures (omega arith) (omega arith) (omega arith) in
-    omega (arith, n, t.not_full, t.kinds, c.if-y-eq-CENTRE.false, c.if-x-eq-FULL.false)
+    (c.in_default.not-Full-0, n.0.0, n.0.1, t.not_full, c.in_default.not-Centre-1, n.1.0, n.1.1, omega arith, omega arith, omega arith, omega arith, omega arith)
 
-pub returns : goal.returns
-returns c =
-    c.luma_between-2.ensures
+pub returns-in_default : goal.returns-in_default
+returns-in_default c =
+    c.luma_between-in_default.ensures
     ∙ drawn_ext _ _ _ _ _ (λ u r _ _. luma_two 255 c.args.fx c.args.fy _ c.phase_at-f.result c.phase_at-f.ensures)

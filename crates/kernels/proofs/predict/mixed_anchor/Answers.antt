@@ -11,4 +11,4 @@ returns c =
     let v = c.args.v.now in
     let h = c.half_of-half.ensures in
     c.mixed_block.ensures
-    ∙ drawn_ext _ _ _ _ _ (λ x r _ _. ap (mean _) (half_there c.args.k v.at v.stride _ _ (h.0, h.1) (omega arith) (omega arith) v.samples.now _ _ h.2 h.3 x r))
+    ∙ drawn_ext _ _ _ _ _ (λ x r _ _. ap (mean _) (half_there c.args.k v.at v.stride _ _ (h.0, h.1) c.requires.0 c.requires.1 v.samples.now _ _ h.2 h.3 x r))
