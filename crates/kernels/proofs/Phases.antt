@@ -22,7 +22,7 @@ use Rattle.samples.specs.declared.phases.Phase.{Phase}
 use Rattle.samples.specs.Tap.{half, mean}
 use Rattle.samples.specs.Phase.{plane_number, at, anchor, pair, phases, phase_of}
 use Rattle.samples.specs.Kernel.{window_at}
-use Rattle.samples.proofs.Reach.{both, one_kind, Near, phase_near, at_across, at_down}
+use Rattle.samples.proofs.Reach.{both, Near, phase_near, at_across, at_down}
 use Rattle.samples.proofs.Tap.{half_cong}
 
 -- ---- the table

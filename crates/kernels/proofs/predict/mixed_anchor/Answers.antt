@@ -1,6 +1,5 @@
 -- `kernels::predict::mixed_anchor` meets its contract: the half samples where their taps are, averaged. Assumes nothing.
 use mathlib.Core.Path.{ap, ◌∙◌}
-use native.Mathlib.Omega.{arith}
 use Rattle.grid.proofs.Fill.{drawn_ext}
 use Rattle.samples.specs.Tap.{mean}
 use Rattle.kernels.proofs.Phases.{half_there}
