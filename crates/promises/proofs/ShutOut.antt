@@ -1,9 +1,9 @@
 -- Programs that the contracts shut out: one fixed grey, one that only refuses, one that writes nothing, and one that fills in a missing sample. Assumes nothing.
 use mathlib.Core.Path.{◌≡◌, refl, ap, ◌∙◌}
 use mathlib.Core.List.{List, [], ◌∷◌}
-use Prim.Native.Nat.{ℕ, zero, suc, ◌+◌, ◌*◌, ◌≤◌, min}
+use Prim.Native.Nat.{ℕ, ◌+◌, ◌*◌, ◌≤◌, min}
 use native.Mathlib.Omega.{arith}
-use lib.IntN.{ℤ, pos}
+use lib.IntN.{pos}
 use lib.ListN.{length}
 use denote.Ref.{Bor, MutBor}
 use contract.Lifetimes.{Lfts}

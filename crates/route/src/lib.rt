@@ -165,7 +165,8 @@ pub fn predict_from<C: Component<STEPS, TILE>, const STEPS: usize, const TILE: u
     }
 }
 
-// The block of any phase.
+// The block of any phase. In the place of its calls, so that the records stay in registers.
+#[inline(always)]
 pub fn predict<C: Component<STEPS, TILE>, const STEPS: usize, const TILE: usize>(
     area: Area,
     aim: Aim<STEPS>,

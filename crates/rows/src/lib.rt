@@ -57,6 +57,8 @@ fn average_four(a: &[u8], b: &[u8], stride: usize, dst: &mut [u8])
 }
 
 // The averages of two planes, 4, 8 or 16 wide. The widths are told apart by their order, and stand as literals where they are used.
+// A call of its own: in its caller's place the compiler makes other code of its rows, half as long again.
+#[inline(never)]
 pub fn average_block(a: &[u8], b: &[u8], stride: usize, size: Size, dst: &mut [u8])
     requires { ((narrow size.w || eqb size.w 16) ≡ true) × ((size.h - 1) * stride + size.w ≤ length a.now) × ((size.h - 1) * stride + size.w ≤ length b.now) × (size.w * size.h ≤ length dst.old) }
     ensures { dst.new ≡ drawn dst.old size.w size.h (λ x y. mean (get_or a.now (y * stride + x) 0) (get_or b.now (y * stride + x) 0)) }
