@@ -20,19 +20,29 @@ pub fn copy_block(v: View, size: Size, dst: &mut [u8])
     full::full_rows(v, size, dst);
 }
 
+// N bytes of src from p on, written from dst[o] on. A loop: with `grid::copy_run`, which is a `copy_from_slice`, lanes fall apart before they are vector code.
+fn copy_lanes<const N: usize>(src: &[u8], p: usize, dst: &mut [u8], o: usize)
+    requires { (p + N ≤ length src.now) × (o + N ≤ length dst.old) }
+    ensures { dst.new ≡ put dst.old o N (λ i. get_or src.now (p + i) 0) }
+{
+    for i in 0..N {
+        dst[o + i] = src[p + i];
+    }
+}
+
 // N averages. Sixteen are vector code, eight are not: the first N of sixteen lanes are loaded, and stored, each by one move, since N is a literal.
-// Tried with `copy_from_slice` and slower: the lanes fall apart before they are vector code, and 8 by 8 takes 763 instructions in place of 113.
+// Loaded and stored by `copy_from_slice`, 8 by 8 takes 763 instructions in place of 113.
 fn average_row<const N: usize>(a: &[u8], b: &[u8], p: usize, dst: &mut [u8], o: usize)
     requires { (N ≤ 16) × (p + N ≤ length a.now) × (p + N ≤ length b.now) × (o + N ≤ length dst.old) }
     ensures { dst.new ≡ put dst.old o N (λ i. mean (get_or a.now (p + i) 0) (get_or b.now (p + i) 0)) }
 {
     let mut x = [0u8; 16];
     let mut y = [0u8; 16];
-    grid::copy_run(a, p, N, &mut x, 0);
-    grid::copy_run(b, p, N, &mut y, 0);
+    copy_lanes::<N>(a, p, &mut x, 0);
+    copy_lanes::<N>(b, p, &mut y, 0);
     let mut z = [0u8; 16];
     average::mean_lanes(&x, &y, &mut z);
-    grid::copy_run(&z, 0, N, dst, o);
+    copy_lanes::<N>(&z, 0, dst, o);
 }
 
 // Rows go by index: of chunks that were written to, a proof knows the length alone.
@@ -57,8 +67,6 @@ fn average_four(a: &[u8], b: &[u8], stride: usize, dst: &mut [u8])
 }
 
 // The averages of two planes, 4, 8 or 16 wide. The widths are told apart by their order, and stand as literals where they are used.
-// A call of its own: in its caller's place the compiler makes other code of its rows, half as long again.
-#[inline(never)]
 pub fn average_block(a: &[u8], b: &[u8], stride: usize, size: Size, dst: &mut [u8])
     requires { ((narrow size.w || eqb size.w 16) ≡ true) × ((size.h - 1) * stride + size.w ≤ length a.now) × ((size.h - 1) * stride + size.w ≤ length b.now) × (size.w * size.h ≤ length dst.old) }
     ensures { dst.new ≡ drawn dst.old size.w size.h (λ x y. mean (get_or a.now (y * stride + x) 0) (get_or b.now (y * stride + x) 0)) }

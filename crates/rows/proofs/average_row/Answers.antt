@@ -29,4 +29,4 @@ stored {e} {z} {x} {y} {m} d x₀ y₀ o n p a b s q u v h =
 pub returns : goal.returns
 returns g c =
     let x = c.args in
-    stored x.dst.now _ _ x.o g.row.N x.p x.a.now x.b.now c.copy_run-3.ensures c.mean_lanes.ensures c.copy_run.ensures c.copy_run-2.ensures (omega (arith, length-replicate {A = ℕ} 16 0))
+    stored x.dst.now _ _ x.o g.row.N x.p x.a.now x.b.now c.copy_lanes-3.ensures c.mean_lanes.ensures c.copy_lanes.ensures c.copy_lanes-2.ensures (omega (arith, length-replicate {A = ℕ} 16 0))
