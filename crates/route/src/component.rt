@@ -28,12 +28,17 @@ pub trait Component<const STEPS: usize, const TILE: usize> {
 
     ghost sample: { Sample };
 
-    // The block of a phase other than (0, 0), whose window starts at samples[at].
+    // The phases whose blocks are made.
+    ghost Takes: { ℕ → ℕ → Type 0 };
+
+    // The block of such a phase, whose window starts at samples[at].
     fn block(samples: &[u8], at: usize, stride: usize, aim: Aim<STEPS>, out: &mut [u8])
-        requires { (1 ≤ aim.fx + aim.fy) × (at + (aim.h - 1 + AROUND) * stride + LANES ≤ length samples.now) × (aim.w * aim.h ≤ length out.old) }
+        requires { (Takes aim.fx aim.fy) × (at + (aim.h - 1 + AROUND) * stride + LANES ≤ length samples.now) × (aim.w * aim.h ≤ length out.old) }
         ensures { out.new ≡ drawn out.old aim.entry.w aim.entry.h (λ c r. sample aim.entry.fx aim.entry.fy (window_at samples.now at stride c r)) };
 
     ghost near: { (BEFORE ≤ 2) × (AROUND ≤ 5) × (TILE ≤ 441) };
+
+    ghost between: { (fx fy : ℕ) → 1 ≤ fx + fy → Takes fx fy };
 
     ghost reads: { ReadsWithin sample AROUND };
 
@@ -59,7 +64,11 @@ impl Component<4, 441> for Luma {
 
     ghost sample = { luma_sample 255 };
 
+    ghost Takes = { λ fx fy. 1 ≤ fx + fy };
+
     ghost near = { Prim.search rules };
+
+    ghost between = { λ fx fy moved. moved };
 
     ghost reads = { luma_reads };
 
@@ -67,6 +76,7 @@ impl Component<4, 441> for Luma {
 
     ghost fits = { luma_fits };
 
+    #[inline(always)]
     fn block(samples: &[u8], at: usize, stride: usize, aim: Aim<4>, out: &mut [u8])
         requires { (1 ≤ aim.fx + aim.fy) × (at + (aim.h - 1 + 5) * stride + 21 ≤ length samples.now) × (aim.w * aim.h ≤ length out.old) }
         ensures { out.new ≡ drawn out.old aim.w aim.h (λ c r. luma_sample 255 aim.fx aim.fy (window_at samples.now at stride c r)) }
@@ -98,7 +108,11 @@ impl Component<8, 81> for Chroma {
 
     ghost sample = { chroma_sample };
 
+    ghost Takes = { λ fx fy. Unit {0} };
+
     ghost near = { Prim.search rules };
+
+    ghost between = { λ fx fy moved. tt };
 
     ghost reads = { chroma_reads };
 
@@ -106,8 +120,9 @@ impl Component<8, 81> for Chroma {
 
     ghost fits = { chroma_fits };
 
+    #[inline(always)]
     fn block(samples: &[u8], at: usize, stride: usize, aim: Aim<8>, out: &mut [u8])
-        requires { (1 ≤ aim.fx + aim.fy) × (at + (aim.h - 1 + 1) * stride + 9 ≤ length samples.now) × (aim.w * aim.h ≤ length out.old) }
+        requires { (at + (aim.h - 1 + 1) * stride + 9 ≤ length samples.now) × (aim.w * aim.h ≤ length out.old) }
         ensures { out.new ≡ drawn out.old aim.w aim.h (λ c r. chroma_sample aim.fx aim.fy (window_at samples.now at stride c r)) }
     {
         let view = View {

@@ -79,6 +79,7 @@ pub fn locate_known<const STEPS: usize>(inside: bool, area: Area, aim: Aim<STEPS
 }
 
 // The block's full samples, which were located at the spot.
+#[inline(always)]
 pub fn full_from<const STEPS: usize>(
     spot: Option<usize>,
     area: Area,
@@ -104,6 +105,7 @@ pub fn full_from<const STEPS: usize>(
 }
 
 // The block's full samples.
+#[inline(always)]
 fn predict_full<const STEPS: usize>(area: Area, aim: Aim<STEPS>, out: &mut [u8])
     requires { aim.w * aim.h ≤ length out.old }
     ensures { out.new ≡ drawn out.old aim.entry.w aim.entry.h (λ c r. near_area area.entry.samples.now area.entry.at area.entry.stride area.entry.w area.entry.h (2 ^ 31 / STEPS) (aim.entry.x + c) (aim.entry.y + r)) }
@@ -121,14 +123,14 @@ pub fn locate_window<C: Component<STEPS, TILE>, const STEPS: usize, const TILE: 
     locate(area, aim, C::BEFORE, C::AROUND, C::LANES)
 }
 
-// The block of a phase other than (0, 0) by way of its clamped tile.
+// The block of a phase that the component takes, by way of its clamped tile.
 fn tiled<C: Component<STEPS, TILE>, const STEPS: usize, const TILE: usize>(
     tile: &mut [u8],
     area: Area,
     aim: Aim<STEPS>,
     out: &mut [u8],
 )
-    requires { (TILE ≤ length tile.old) × (1 ≤ aim.fx + aim.fy) × (aim.w * aim.h ≤ length out.old) }
+    requires { (TILE ≤ length tile.old) × (C.Takes aim.fx aim.fy) × (aim.w * aim.h ≤ length out.old) }
     ensures { out.new ≡ drawn out.old aim.entry.w aim.entry.h (near_by C.sample area.entry.samples.now area.entry.at area.entry.stride area.entry.w area.entry.h (2 ^ 31 / STEPS + C.BEFORE) aim.entry.x aim.entry.y aim.entry.fx aim.entry.fy) }
 {
     tiles::tile_into(tile, area, aim, C::BEFORE, C::AROUND);
@@ -141,21 +143,22 @@ fn by_tile<C: Component<STEPS, TILE>, const STEPS: usize, const TILE: usize>(
     aim: Aim<STEPS>,
     out: &mut [u8],
 )
-    requires { (1 ≤ aim.fx + aim.fy) × (aim.w * aim.h ≤ length out.old) }
+    requires { (C.Takes aim.fx aim.fy) × (aim.w * aim.h ≤ length out.old) }
     ensures { out.new ≡ drawn out.old aim.entry.w aim.entry.h (near_by C.sample area.entry.samples.now area.entry.at area.entry.stride area.entry.w area.entry.h (2 ^ 31 / STEPS + C.BEFORE) aim.entry.x aim.entry.y aim.entry.fx aim.entry.fy) }
 {
     let mut tile = [0u8; TILE];
     tiled::<C, STEPS, TILE>(&mut tile, area, aim, out);
 }
 
-// The block of a phase other than (0, 0), whose window was located at the spot.
+// The block of a phase that the component takes, whose window was located at the spot.
+#[inline(always)]
 pub fn predict_from<C: Component<STEPS, TILE>, const STEPS: usize, const TILE: usize>(
     spot: Option<usize>,
     area: Area,
     aim: Aim<STEPS>,
     out: &mut [u8],
 )
-    requires { (1 ≤ aim.fx + aim.fy) × (aim.w * aim.h ≤ length out.old)
+    requires { (C.Takes aim.fx aim.fy) × (aim.w * aim.h ≤ length out.old)
         × IfSome spot (λ at. Lies (length area.samples.now) area.at area.stride area.w area.h aim.x aim.y (2 ^ 31 / STEPS + C.BEFORE) (aim.w + C.AROUND) (aim.h + C.AROUND) C.LANES at) }
     ensures { out.new ≡ drawn out.old aim.entry.w aim.entry.h (near_by C.sample area.entry.samples.now area.entry.at area.entry.stride area.entry.w area.entry.h (2 ^ 31 / STEPS + C.BEFORE) aim.entry.x aim.entry.y aim.entry.fx aim.entry.fy) }
 {

@@ -5,7 +5,9 @@ use Rattle.route.proofs.Inside.{room_of, placed}
 use Rattle.route.proofs.predict_from.Goals as goal
 
 pub block-requires : goal.block-requires
-block-requires g c = omega (arith, room_of (MatchOption-at_some _ _ _ c.in-Some.is c.requires.2) (c.args.aim.h - 1 + g.C.Component.AROUND) (omega arith))
+block-requires g c =
+    let room = room_of (MatchOption-at_some _ _ _ c.in-Some.is c.requires.2) (c.args.aim.h - 1 + g.C.Component.AROUND) (omega arith) in
+    (omega arith, (c.requires.0, omega (arith, room), omega arith))
 
 pub returns-in-Some : goal.returns-in-Some
 returns-in-Some g c =

@@ -4,7 +4,9 @@ use Rattle.route.proofs.Inside.{room_of, full, placed}
 use Rattle.route.proofs.predict_with.Goals as goal
 
 pub block-requires : goal.block-requires
-block-requires g c = omega (arith, room_of c.in-Some.ensures (c.args.aim.h - 1 + g.C.Component.AROUND) (omega arith))
+block-requires g c =
+    let room = room_of c.in-Some.ensures (c.args.aim.h - 1 + g.C.Component.AROUND) (omega arith) in
+    (omega arith, (g.met.C.Component.between c.args.aim.fx c.args.aim.fy (omega arith), omega (arith, room), omega arith))
 
 pub returns-then-aim-eq0 : goal.returns-then-aim-eq0
 returns-then-aim-eq0 g c =

@@ -14,7 +14,7 @@ pub block-requires : goal.block-requires
 block-requires g c =
     let m = c.args.aim in
     let fits = g.met.C.Component.fits m.w m.h m.high m.steps_across m.steps_down in
-    rw c.AROUND-2.ensures (omega (arith, fits))
+    rw c.AROUND-2.ensures (omega arith, (c.requires.1, omega (arith, fits), omega arith))
 
 pub returns : goal.returns
 returns g c =
