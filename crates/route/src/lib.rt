@@ -78,7 +78,7 @@ pub fn locate_known<const STEPS: usize>(inside: bool, area: Area, aim: Aim<STEPS
     locate_full(area, aim)
 }
 
-// The block's full samples, which were located at the spot.
+// The block's full samples, which were located at the spot. Here and below: in the place of its calls, so that the records stay in registers.
 #[inline(always)]
 pub fn full_from<const STEPS: usize>(
     spot: Option<usize>,
@@ -168,7 +168,7 @@ pub fn predict_from<C: Component<STEPS, TILE>, const STEPS: usize, const TILE: u
     }
 }
 
-// The block of any phase. In the place of its calls, so that the records stay in registers.
+// The block of any phase.
 #[inline(always)]
 pub fn predict<C: Component<STEPS, TILE>, const STEPS: usize, const TILE: usize>(
     area: Area,
