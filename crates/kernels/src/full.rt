@@ -49,11 +49,17 @@ pub fn is_copied(bw: usize) -> bool
     (COPIED >> bw) % 2 == 1
 }
 
-// A literal width makes each row one move, and nothing else here: an unknown width would have every call save its registers.
-pub fn full_block(v: View, size: Size, dst: &mut [u8])
-    requires { (copied size.w ≡ true) × (v.at + (size.h - 1) * v.stride + size.w ≤ length v.samples.now) × (size.w * size.h ≤ length dst.old) }
-    ensures { dst.new ≡ drawn dst.old size.w size.h (λ c r. get_or v.entry.samples.now (v.entry.at + r * v.entry.stride + c) 0) }
+// A literal width makes each row one move, and nothing else here: an unknown width would have every call save its registers. A call of its own, whose arguments are few enough to stay in registers; a view would be stored and loaded again.
+#[inline(never)]
+fn rows_of_width(samples: &[u8], stride: usize, size: Size, dst: &mut [u8])
+    requires { (copied size.w ≡ true) × ((size.h - 1) * stride + size.w ≤ length samples.now) × (size.w * size.h ≤ length dst.old) }
+    ensures { dst.new ≡ drawn dst.old size.w size.h (λ c r. get_or samples.now (r * stride + c) 0) }
 {
+    let v = View {
+        samples,
+        at: 0,
+        stride,
+    };
     let h = size.h;
     match size.w {
         16 => full_rows(v, Size { w: 16, h }, dst),
@@ -61,4 +67,12 @@ pub fn full_block(v: View, size: Size, dst: &mut [u8])
         4 => full_rows(v, Size { w: 4, h }, dst),
         _ => full_rows(v, Size { w: 2, h }, dst),
     }
+}
+
+#[inline(always)]
+pub fn full_block(v: View, size: Size, dst: &mut [u8])
+    requires { (copied size.w ≡ true) × (v.at + (size.h - 1) * v.stride + size.w ≤ length v.samples.now) × (size.w * size.h ≤ length dst.old) }
+    ensures { dst.new ≡ drawn dst.old size.w size.h (λ c r. get_or v.entry.samples.now (v.entry.at + r * v.entry.stride + c) 0) }
+{
+    rows_of_width(&v.samples[v.at..], v.stride, size, dst);
 }
