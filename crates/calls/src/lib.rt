@@ -14,16 +14,16 @@ use terms::plane::{Geometry, Plane};
 use terms::refusal::{Refusal, number};
 use vectors::{MvAnswer, MvNeighbor, Neighbors};
 
-// How long an output is: the largest that the list has is a plane of 257 by 257.
+// Room for the largest output that the list has, a plane of 257 by 257.
 pub const ROOM: usize = 66560;
 
-// What a call may write to; most write to the first alone.
+// What a call may write to, of any length; most write to the first alone.
 #[derive(Drop)]
-pub struct Outputs {
-    pub o: [u8; ROOM],
-    pub p: [u8; ROOM],
-    pub q: [u8; ROOM],
-    pub r: [u8; ROOM],
+pub struct Outputs<'a> {
+    pub o: &'a mut [u8],
+    pub p: &'a mut [u8],
+    pub q: &'a mut [u8],
+    pub r: &'a mut [u8],
 }
 
 // What a call is made with: the numbers of its line, whose arguments begin at place 2, and the bytes of all pictures.
@@ -228,8 +228,8 @@ fn mc_chroma_padded_pair(a: Request, out: &mut Outputs) -> Result<(), Refusal> {
         a.source(15),
         a.geometry(4),
         a.block(8),
-        a.lent(14, &mut out.o),
-        a.lent(17, &mut out.p),
+        a.lent(14, out.o),
+        a.lent(17, out.p),
     )
 }
 
@@ -241,10 +241,10 @@ fn build_hpel_planes(a: Request, out: &mut Outputs) -> Result<(), Refusal> {
     planes::build_hpel_planes(
         a.plane(2),
         a.numbers[6],
-        a.lent(7, &mut out.o),
-        a.lent(8, &mut out.p),
-        a.lent(9, &mut out.q),
-        a.lent(10, &mut out.r),
+        a.lent(7, out.o),
+        a.lent(8, out.p),
+        a.lent(9, out.q),
+        a.lent(10, out.r),
     )
 }
 
@@ -256,20 +256,20 @@ pub fn answer(call: Call, a: Request, out: &mut Outputs) -> Numbers {
         Call::PredictPartitionMv => predict_partition_mv(a),
         Call::InterPartitions => inter_partitions(a),
         Call::EdgeCount => edge_count(a),
-        Call::McLuma => only(mc_luma(a, &mut out.o)),
-        Call::McChroma => only(mc_chroma(a, &mut out.o)),
-        Call::AvgRowInto => only(avg_row_into(a, &mut out.o)),
-        Call::ExpandPlane => only(expand_plane(a, &mut out.o)),
-        Call::McLumaPadded => only(mc_luma_padded(a, &mut out.o)),
-        Call::McLumaPaddedPre => only(mc_luma_padded_pre(a, &mut out.o)),
-        Call::McChromaPadded => only(mc_chroma_padded(a, &mut out.o)),
+        Call::McLuma => only(mc_luma(a, out.o)),
+        Call::McChroma => only(mc_chroma(a, out.o)),
+        Call::AvgRowInto => only(avg_row_into(a, out.o)),
+        Call::ExpandPlane => only(expand_plane(a, out.o)),
+        Call::McLumaPadded => only(mc_luma_padded(a, out.o)),
+        Call::McLumaPaddedPre => only(mc_luma_padded_pre(a, out.o)),
+        Call::McChromaPadded => only(mc_chroma_padded(a, out.o)),
         Call::McChromaPaddedPair => only(mc_chroma_padded_pair(a, out)),
-        Call::PadPlane => only(pad_plane(a, &mut out.o)),
+        Call::PadPlane => only(pad_plane(a, out.o)),
         Call::BuildHpelPlanes => only(build_hpel_planes(a, out)),
         Call::HpelRefAt => half::hpel_ref_at(a),
         Call::HpelQpelRefsAt => half::hpel_qpel_refs_at(a),
         Call::HpelRef => half::hpel_ref(a),
         Call::HpelQpelRefs => half::hpel_qpel_refs(a),
-        Call::HpelBlock => only(half::hpel_block(a, &mut out.o)),
+        Call::HpelBlock => only(half::hpel_block(a, out.o)),
     }
 }

@@ -1,7 +1,8 @@
 // Reading the list: what is left of the text, which each reading shortens by what was read.
 #![tactic(auto)]
 
-ghost use Rattle.std.specs.Prelude.{◌≡◌, ◌<◌, ◌≤◌, ◌↔◌, length, Some, IfSome, IsTrue, slice_get, drop};
+ghost use Rattle.std.specs.Prelude.{◌≡◌, ◌<◌, ◌≤◌, ◌↔◌, length, Some, IfSome, IfOk, IsTrue, MatchBool, MatchOption, slice_get, drop};
+ghost use Rattle.lists.specs.Tail.{IsTail};
 
 use std::error::Error;
 use std::fmt;
@@ -63,7 +64,8 @@ impl<'a> Text<'a> {
     // Past the byte `mark`, where it is the next.
     pub fn take(&mut self, mark: u8) -> bool
         ensures found { IsTrue result ↔ (slice_get self.old.rest.now 0 ≡ Some mark) }
-        ensures left { length self.new.rest.now ≤ length self.old.rest.now }
+        ensures left { MatchBool result (self.new.rest.now ≡ drop 1 self.old.rest.now)
+            (self.new.rest.now ≡ self.old.rest.now) }
     {
         let found = self.first() == Some(mark);
         if found {
@@ -74,7 +76,9 @@ impl<'a> Text<'a> {
 
     // Past a line that begins with `#` and ends.
     pub fn take_comment(&mut self) -> bool
-        ensures { IsTrue result → length self.new.rest.now < length self.old.rest.now }
+        ensures shorter { IsTrue result → length self.new.rest.now < length self.old.rest.now }
+        ensures left { MatchBool result (IsTail self.old.rest.now self.new.rest.now)
+            (self.new.rest.now ≡ self.old.rest.now) }
     {
         if self.first() != Some(b'#') {
             return false;
@@ -88,7 +92,8 @@ impl<'a> Text<'a> {
 
     // A decimal number below 2^64. It has twenty digits at most, also where the first are zeros.
     fn decimal(&mut self) -> Result<usize, NumberError>
-        ensures { length self.new.rest.now ≤ length self.old.rest.now }
+        ensures shorter { IfOk result (λ _. length self.new.rest.now < length self.old.rest.now) }
+        ensures left { IsTail self.old.rest.now self.new.rest.now }
     {
         let mut value = None;
         for _ in 0..20u8 {
@@ -102,14 +107,20 @@ impl<'a> Text<'a> {
     }
 
     // A number with its sign; below 0 it is kept as 2^64 less.
-    fn signed_number(&mut self) -> Result<usize, NumberError> {
+    fn signed_number(&mut self) -> Result<usize, NumberError>
+        ensures shorter { IfOk result (λ _. length self.new.rest.now < length self.old.rest.now) }
+        ensures left { IsTail self.old.rest.now self.new.rest.now }
+    {
         if self.take(b'-') {
             return Ok(0usize.wrapping_sub(self.decimal()?));
         }
         self.decimal()
     }
 
-    fn read_numbers(&mut self, list: &mut Numbers) -> Result<(), NumberError> {
+    fn read_numbers(&mut self, list: &mut Numbers) -> Result<(), NumberError>
+        ensures shorter { IfOk result (λ _. length self.new.rest.now < length self.old.rest.now) }
+        ensures left { IsTail self.old.rest.now self.new.rest.now }
+    {
         for number in list.iter_mut() {
             *number = self.signed_number()?;
             if !self.take(b' ') {
@@ -120,7 +131,10 @@ impl<'a> Text<'a> {
     }
 
     // Numbers with a space between each two.
-    pub fn numbers(&mut self) -> Result<Numbers, Broken> {
+    pub fn numbers(&mut self) -> Result<Numbers, Broken>
+        ensures shorter { IfOk result (λ _. length self.new.rest.now < length self.old.rest.now) }
+        ensures left { IsTail self.old.rest.now self.new.rest.now }
+    {
         let mut read = [0usize; MOST];
         match self.read_numbers(&mut read) {
             Ok(()) => Ok(read),
@@ -130,7 +144,7 @@ impl<'a> Text<'a> {
 
     // How often the byte before stands: `*` and a number and `.`, else once.
     fn times(&mut self) -> Option<usize>
-        ensures { length self.new.rest.now ≤ length self.old.rest.now }
+        ensures { IsTail self.old.rest.now self.new.rest.now }
     {
         if !self.take(b'*') {
             return Some(1);
@@ -141,7 +155,8 @@ impl<'a> Text<'a> {
 
     // A byte in hexadecimal.
     fn byte(&mut self) -> Option<u8>
-        ensures { IfSome result (λ _. length self.new.rest.now < length self.old.rest.now) }
+        ensures shorter { IfSome result (λ _. length self.new.rest.now < length self.old.rest.now) }
+        ensures left { IsTail self.old.rest.now self.new.rest.now }
     {
         let [high, low, rest @ ..] = self.rest else {
             return None;
@@ -153,7 +168,10 @@ impl<'a> Text<'a> {
 
     // Bytes in hexadecimal, to the beginning of room, and how many; they end at what is no byte.
     pub fn bytes(&mut self, room: &mut [u8]) -> Option<usize>
-        ensures { IfSome result (λ n. n ≤ length room.new) }
+        ensures within { IfSome result (λ n. n ≤ length room.new) }
+        ensures shorter { MatchOption result (length self.new.rest.now < length self.old.rest.now)
+            (λ n. 0 < n → length self.new.rest.now < length self.old.rest.now) }
+        ensures left { IsTail self.old.rest.now self.new.rest.now }
     {
         let mut filled = 0;
         while let Some(byte) = self.byte() {

@@ -73,31 +73,31 @@ impl Line {
 
     // Whether all that the call gives is as listed; none where the rest of the line lists no outputs.
     fn judge(&self, text: &mut Text, pictures: &Pictures) -> Option<bool> {
-        let mut got = untouched();
+        let mut o = [FILL; ROOM];
+        let mut p = [FILL; ROOM];
+        let mut q = [FILL; ROOM];
+        let mut r = [FILL; ROOM];
+        let mut outputs = Outputs {
+            o: &mut o,
+            p: &mut p,
+            q: &mut q,
+            r: &mut r,
+        };
         let request = Request {
             numbers: &self.numbers,
             pictures: &pictures.bytes,
         };
-        let answer = calls::answer(self.call, request, &mut got);
+        let answer = calls::answer(self.call, request, &mut outputs);
         let room = self.numbers[1];
-        let o = is_as_listed(text, &got.o, room)?;
-        let p = is_as_listed(text, &got.p, room)?;
-        let q = is_as_listed(text, &got.q, room)?;
-        let r = is_as_listed(text, &got.r, room)?;
+        let same_o = is_as_listed(text, &o, room)?;
+        let same_p = is_as_listed(text, &p, room)?;
+        let same_q = is_as_listed(text, &q, room)?;
+        let same_r = is_as_listed(text, &r, room)?;
         if !text.take(b'\n') {
             return None;
         }
-        Some(runs::same_numbers(&answer, &self.answer) & o & p & q & r)
-    }
-}
-
-// The outputs as they are before a call.
-fn untouched() -> Outputs {
-    Outputs {
-        o: [FILL; ROOM],
-        p: [FILL; ROOM],
-        q: [FILL; ROOM],
-        r: [FILL; ROOM],
+        let same = runs::same_numbers(&answer, &self.answer);
+        Some(same & same_o & same_p & same_q & same_r)
     }
 }
 
