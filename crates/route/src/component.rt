@@ -38,6 +38,7 @@ pub trait Component<const STEPS: usize, const TILE: usize> {
 
     ghost near: { (BEFORE ≤ 2) × (AROUND ≤ 5) × (TILE ≤ 441) };
 
+    // At least every phase but (0, 0).
     ghost between: { (fx fy : ℕ) → 1 ≤ fx + fy → Takes fx fy };
 
     ghost reads: { ReadsWithin sample AROUND };

@@ -78,7 +78,7 @@ pub fn locate_known<const STEPS: usize>(inside: bool, area: Area, aim: Aim<STEPS
     locate_full(area, aim)
 }
 
-// The block's full samples, which were located at the spot. Here and below: in the place of its calls, so that the records stay in registers.
+// The block's full samples, which were located at the spot. This and the others so marked stand in the place of their calls, so that the records stay in registers.
 #[inline(always)]
 pub fn full_from<const STEPS: usize>(
     spot: Option<usize>,

@@ -1,5 +1,5 @@
 -- The loop of `lanes::Each`'s pair: the lanes before c are made in both rows. Assumes nothing.
-use Rattle.std.proofs.Common.{ℕ, ◌+◌}
+use Rattle.std.proofs.Common.{◌+◌}
 use Rattle.grid.proofs.Group.{Lanes}
 use Rattle.lanes.proofs.EachKernel.pair.Given as goal
 
