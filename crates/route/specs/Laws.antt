@@ -1,4 +1,4 @@
--- Words of the workshop: what luma and chroma have in common: a sample reads its window alone, one of phase (0, 0) is the sample at its place, and a block's window fits its tile. No public contract rests on them. Assumes nothing.
+-- Words of the workshop: what luma and chroma have in common: each phase but (0, 0) is among those whose blocks are made, a sample reads its window alone, one of phase (0, 0) is the sample at its place, and a block's window fits its tile. No public contract rests on them. Assumes nothing.
 use Rattle.std.proofs.Common.{◌≡◌, ℕ, ◌+◌, ◌*◌, ◌-◌, ◌≤◌, ◌<◌, ap₂, ◌∙◌, arith}
 use Rattle.place.proofs.Refused.{area}
 use Rattle.samples.specs.Phase.{luma_sample}
@@ -8,6 +8,19 @@ use Rattle.samples.proofs.Reach.{luma_six, luma_full, chroma_four, chroma_full}
 -- the sample of a phase out of those around it
 abbrev pub Sample : Type 0
 Sample = ℕ → ℕ → (ℕ → ℕ → ℕ) → ℕ
+
+-- a set of phases that holds each but (0, 0)
+pub record Phases : Type 1 where
+  pub Takes : (fx fy : ℕ) → Type 0
+  pub between : (fx fy : ℕ) → 1 ≤ fx + fy → Takes fx fy
+
+-- these alone
+abbrev pub but_full : Phases
+but_full = record { Takes = λ fx fy. 1 ≤ fx + fy; between = λ fx fy moved. moved }
+
+-- (0, 0) too
+abbrev pub every : Phases
+every = record { Takes = λ fx fy. Unit {0}; between = λ fx fy moved. tt }
 
 -- it reads `around` samples more than one on each axis
 abbrev pub ReadsWithin : Sample → ℕ → Type 0

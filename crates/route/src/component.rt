@@ -5,7 +5,7 @@ ghost use Rattle.samples.specs.Kernel.{window_at};
 ghost use Rattle.samples.specs.Phase.{luma_sample};
 ghost use Rattle.samples.specs.Bilinear.{chroma_sample};
 ghost use Rattle.std.proofs.Common.{rules};
-ghost use Rattle.route.specs.Laws.{Sample, ReadsWithin, AtFull, TileHolds, luma_reads, luma_at_full, luma_fits, chroma_reads, chroma_at_full, chroma_fits};
+ghost use Rattle.route.specs.Laws.{Sample, Phases, but_full, every, ReadsWithin, AtFull, TileHolds, luma_reads, luma_at_full, luma_fits, chroma_reads, chroma_at_full, chroma_fits};
 
 use grid::{Size, View};
 use kernels::predict;
@@ -28,18 +28,18 @@ pub trait Component<const STEPS: usize, const TILE: usize> {
 
     ghost sample: { Sample };
 
-    // The phases whose blocks are made.
-    ghost Takes: { ℕ → ℕ → Type 0 };
+    // The phases whose blocks are made: by default all but (0, 0).
+    ghost phases: { Phases } = { but_full };
 
     // The block of such a phase, whose window starts at samples[at].
     fn block(samples: &[u8], at: usize, stride: usize, aim: Aim<STEPS>, out: &mut [u8])
-        requires { (Takes aim.fx aim.fy) × (at + (aim.h - 1 + AROUND) * stride + LANES ≤ length samples.now) × (aim.w * aim.h ≤ length out.old) }
+        requires { (phases.Takes aim.fx aim.fy) × (at + (aim.h - 1 + AROUND) * stride + LANES ≤ length samples.now) × (aim.w * aim.h ≤ length out.old) }
         ensures { out.new ≡ drawn out.old aim.entry.w aim.entry.h (λ c r. sample aim.entry.fx aim.entry.fy (window_at samples.now at stride c r)) };
 
     ghost near: { (BEFORE ≤ 2) × (AROUND ≤ 5) × (TILE ≤ 441) };
 
-    // At least every phase but (0, 0).
-    ghost between: { (fx fy : ℕ) → 1 ≤ fx + fy → Takes fx fy };
+    // Each phase but (0, 0) is among `phases`: as a law, which proofs find by themselves.
+    ghost between: { (fx fy : ℕ) → 1 ≤ fx + fy → phases.Takes fx fy } = { phases.between };
 
     ghost reads: { ReadsWithin sample AROUND };
 
@@ -65,11 +65,7 @@ impl Component<4, 441> for Luma {
 
     ghost sample = { luma_sample 255 };
 
-    ghost Takes = { λ fx fy. 1 ≤ fx + fy };
-
     ghost near = { Prim.search rules };
-
-    ghost between = { λ fx fy moved. moved };
 
     ghost reads = { luma_reads };
 
@@ -109,11 +105,9 @@ impl Component<8, 81> for Chroma {
 
     ghost sample = { chroma_sample };
 
-    ghost Takes = { λ fx fy. Unit {0} };
+    ghost phases = { every };
 
     ghost near = { Prim.search rules };
-
-    ghost between = { λ fx fy moved. tt };
 
     ghost reads = { chroma_reads };
 

@@ -1,7 +1,7 @@
 // Blocks predicted from an area of a buffer, every coordinate clamped to it: read in place where the window lies inside, else by way of a tile.
 #![tactic(auto)]
 
-ghost use Rattle.std.specs.Prelude.{◌≡◌, true, ◌+◌, ◌*◌, ◌-◌, ◌/◌, ◌^◌, ◌≤◌, ◌<◌, length, IfSome};
+ghost use Rattle.std.specs.Prelude.{◌≡◌, true, ◌+◌, ◌*◌, ◌-◌, ◌/◌, ◌^◌, ◌≤◌, ◌<◌, ◌⊎◌, length, IfSome};
 ghost use Rattle.grid.specs.Block.{drawn};
 ghost use Rattle.place.specs.Near.{near_area};
 ghost use Rattle.kernels.specs.Width.{copied};
@@ -15,6 +15,8 @@ use place::{coords, tiles};
 use terms::plane::Plane;
 
 pub mod component;
+#[cfg(test)]
+mod tests;
 
 // Where a block starts with `around` samples more on each axis, `before` of them before it, if they lie inside the area.
 fn spot_in<const STEPS: usize>(
@@ -130,7 +132,7 @@ fn tiled<C: Component<STEPS, TILE>, const STEPS: usize, const TILE: usize>(
     aim: Aim<STEPS>,
     out: &mut [u8],
 )
-    requires { (TILE ≤ length tile.old) × (C.Takes aim.fx aim.fy) × (aim.w * aim.h ≤ length out.old) }
+    requires { (TILE ≤ length tile.old) × (C.phases.Takes aim.fx aim.fy) × (aim.w * aim.h ≤ length out.old) }
     ensures { out.new ≡ drawn out.old aim.entry.w aim.entry.h (near_by C.sample area.entry.samples.now area.entry.at area.entry.stride area.entry.w area.entry.h (2 ^ 31 / STEPS + C.BEFORE) aim.entry.x aim.entry.y aim.entry.fx aim.entry.fy) }
 {
     tiles::tile_into(tile, area, aim, C::BEFORE, C::AROUND);
@@ -143,14 +145,14 @@ fn by_tile<C: Component<STEPS, TILE>, const STEPS: usize, const TILE: usize>(
     aim: Aim<STEPS>,
     out: &mut [u8],
 )
-    requires { (C.Takes aim.fx aim.fy) × (aim.w * aim.h ≤ length out.old) }
+    requires { (C.phases.Takes aim.fx aim.fy) × (aim.w * aim.h ≤ length out.old) }
     ensures { out.new ≡ drawn out.old aim.entry.w aim.entry.h (near_by C.sample area.entry.samples.now area.entry.at area.entry.stride area.entry.w area.entry.h (2 ^ 31 / STEPS + C.BEFORE) aim.entry.x aim.entry.y aim.entry.fx aim.entry.fy) }
 {
     let mut tile = [0u8; TILE];
     tiled::<C, STEPS, TILE>(&mut tile, area, aim, out);
 }
 
-// The block of a phase that the component takes, whose window was located at the spot.
+// The block of a phase that the component takes, whose window was located at the spot. Each but (0, 0) is one, which is said here so that a caller needs no law.
 #[inline(always)]
 pub fn predict_from<C: Component<STEPS, TILE>, const STEPS: usize, const TILE: usize>(
     spot: Option<usize>,
@@ -158,7 +160,7 @@ pub fn predict_from<C: Component<STEPS, TILE>, const STEPS: usize, const TILE: u
     aim: Aim<STEPS>,
     out: &mut [u8],
 )
-    requires { (C.Takes aim.fx aim.fy) × (aim.w * aim.h ≤ length out.old)
+    requires { ((1 ≤ aim.fx + aim.fy) ⊎ (C.phases.Takes aim.fx aim.fy)) × (aim.w * aim.h ≤ length out.old)
         × IfSome spot (λ at. Lies (length area.samples.now) area.at area.stride area.w area.h aim.x aim.y (2 ^ 31 / STEPS + C.BEFORE) (aim.w + C.AROUND) (aim.h + C.AROUND) C.LANES at) }
     ensures { out.new ≡ drawn out.old aim.entry.w aim.entry.h (near_by C.sample area.entry.samples.now area.entry.at area.entry.stride area.entry.w area.entry.h (2 ^ 31 / STEPS + C.BEFORE) aim.entry.x aim.entry.y aim.entry.fx aim.entry.fy) }
 {
